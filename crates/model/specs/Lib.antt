@@ -1,0 +1,5 @@
+pub mod Paper
+pub mod Rows
+pub mod Calls
+pub mod Promise
+pub mod Values
