@@ -3,3 +3,4 @@ pub mod Rows
 pub mod Calls
 pub mod Promise
 pub mod Values
+pub mod Walk
