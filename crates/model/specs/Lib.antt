@@ -4,3 +4,5 @@ pub mod Calls
 pub mod Promise
 pub mod Values
 pub mod Walk
+pub mod Origin
+pub mod Worked

@@ -1,0 +1,5 @@
+use Rattle.model.proofs.Worked.{worked-papers}
+use Rattle.model.proofs.letters.worked_papers.Needs as need
+
+pub returns : need.returns
+returns c = worked-papers
