@@ -8,7 +8,7 @@ use lib.Dec.{leb}
 use lib.ListN.{length, drop}
 use lib.Seq.{drop-nil}
 use Rattle.std.proofs.shelf.Tests.{leb-true, le-leb, and-parts}
-use Rattle.model.specs.Paper.{pick, Cell}
+use Rattle.model.specs.Paper.{Cell}
 use Rattle.model.specs.Rows.{begins, find-in}
 use Rattle.model.specs.Promise.{Found-first, Not-found}
 use Rattle.model.proofs.Rows.{by-test}
@@ -36,8 +36,8 @@ found (x ∷ xs) ls from i s e =
     by-test (leb from i && begins (x ∷ xs) ls) (suc i) (find-in xs ls from (suc i)) (λ v. v ≡ suc s → (k : ℕ) × (s ≡ i + k) × Found (x ∷ xs) ls from i k)
     (here (x ∷ xs) ls from i s)
     (λ t e.
-        let r = found xs ls from (suc i) s e in
-        (suc (r .0), omega arith, (omega arith, r .2 .1, elim [ zero ↦ λ a b. fails from i _ t (omega arith) | suc j ↦ λ a b. r .2 .2 j (omega arith) (omega arith) ])))
+    let r = found xs ls from (suc i) s e in
+    (suc (r .0), omega arith, (omega arith, r .2 .1, elim [ zero ↦ λ a b. fails from i _ t (omega arith) | suc j ↦ λ a b. r .2 .2 j (omega arith) (omega arith) ])))
     e
 
 pub found-first : Found-first

@@ -5,7 +5,6 @@ use mathlib.Core.List.{List, [], _∷_, _++_}
 use mathlib.Core.Bool.{Bool, true, false}
 use Prim.Native.Nat.{ℕ, zero, suc, _-_}
 use lib.Dec.{leb, eqb}
-use lib.ListN.{take, drop}
 use Rattle.std.specs.shelf.Lists.{All, Has}
 use Rattle.std.proofs.shelf.Tests.{eqb-true}
 use Rattle.std.proofs.shelf.Elements.{all-append, all-take, all-drop, all-weaker, all-has-itself}
@@ -110,14 +109,14 @@ module _ (P : ℕ → Type 0) where
   after-all l d c f k =
       by-test (eqb (turned l d c) 0) (changed l d c) d Of-desk
       (λ t.
-          by-test (writes c) _ (moved l d c) Of-desk
-          (λ _.
-              record {
-                now = rewritten-all (d .now) c (λ a i s ls e. f a i s ls e (eqb-true _ _ t)) (k .now);
-                past = remembered-all Of-before (l .undos) (record { paper = d .now; much = how-much (d .now) c } ∷ d .past) (k .now, k .past);
-                future = tt
-              })
-          (λ _. moved-all l d c k))
+      by-test (writes c) _ (moved l d c) Of-desk
+      (λ _.
+      record {
+        now = rewritten-all (d .now) c (λ a i s ls e. f a i s ls e (eqb-true _ _ t)) (k .now);
+        past = remembered-all Of-before (l .undos) (record { paper = d .now; much = how-much (d .now) c } ∷ d .past) (k .now, k .past);
+        future = tt;
+      })
+      (λ _. moved-all l d c k))
       (λ _. k)
 
   ran-all : (l : Limits) (d : Desk) (cs : List Call) →
@@ -134,7 +133,7 @@ unfolding Nothing-from-nowhere
 nothing-from-nowhere l cs =
     ran-all (Put-by l cs) l new-desk cs
     (λ before later a i s ls e t.
-        all-weaker (Has ls) (Put-by l cs)
-        (λ x h. record { before = before; author = a; place = i; style = s; typed = ls; later = later; calls = e; done = t; has = h })
-        ls (all-has-itself ls))
+    all-weaker (Has ls) (Put-by l cs)
+    (λ x h. record { before = before; author = a; place = i; style = s; typed = ls; later = later; calls = e; done = t; has = h })
+    ls (all-has-itself ls))
     (record { now = tt; past = tt; future = tt }) .now

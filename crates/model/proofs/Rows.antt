@@ -1,20 +1,21 @@
 -- Rows: where a row is cut, that the letters stay, and how the rows follow one another. Assumes nothing.
 use mathlib.Core.Path.{_≡_, refl, sym, ap, subst, _∙_}
-use mathlib.Core.Logic.{_⊎_, inl, inr, ⊎-elim, _↔_}
+use mathlib.Core.Logic.{_⊎_, inl, inr, _↔_}
 use mathlib.Core.Bool.{Bool, true, false, _||_}
 use mathlib.Core.List.{List, [], _∷_, _++_}
 use Prim.Native.Nat.{ℕ, zero, suc, _+_, _-_, _≤_, _<_}
 use native.Mathlib.Omega.{arith}
-use lib.Dec.{ltb, leb, eqb}
+use lib.Dec.{leb, eqb}
 use lib.ListN.{length, getD, take, drop}
 use lib.Seq.{drop-nil}
-use Rattle.std.proofs.shelf.Tests.{leb-true, leb-false, eqb-true, eqb-false, cases-lt}
-use Rattle.std.proofs.shelf.Lists.{length-take, length-drop, drop-drop, append-assoc, take-append-drop, getD-drop, nil-from-length}
+use Rattle.std.proofs.shelf.Tests.{leb-true, leb-false, eqb-true, eqb-false}
+use Rattle.std.proofs.shelf.Lists.{length-take, length-drop, drop-drop, take-append-drop}
 use Rattle.model.specs.Paper.{pick, Cell, letters}
 use Rattle.model.specs.Rows.{Cut, cut, cut-after, first-end, last-space, rows, rows-in}
 use Rattle.model.specs.Walk.{step, rest}
 use Rattle.model.specs.Promise.{set-letters, only-solid, Letters-kept, Rows-fit, Not-earlier}
 
+-- what holds in both cases of a test
 pub by-test : {A : Type 0} (b : Bool) (x y : A) (P : A → Type 0) → (b ≡ true → P x) → (b ≡ false → P y) → P (pick b x y)
 by-test true x y P f g = f refl
 by-test false x y P f g = g refl
@@ -59,21 +60,21 @@ space-found (x ∷ xs) zero i found = inl (refl, λ k l h g. omega arith)
 space-found (x ∷ xs) (suc n) i found =
     let last : ℕ = last-space xs n (suc i) (pick (eqb (x .letter) 32) (suc i) found) in
     elim (space-found xs n (suc i) (pick (eqb (x .letter) 32) (suc i) found)) [
-      inl r ↦
-        by-test (eqb (x .letter) 32) (suc i) found (λ f. last ≡ f → Last-space (x ∷ xs) (suc n) i found last)
-        (λ t e. inr (0, omega arith, (omega arith, omega arith, eqb-true _ _ t, elim [ zero ↦ λ l h g. omega arith | suc j ↦ λ l h g. r .1 j (omega arith) (omega arith) g ])))
-        (λ t e. inl (e, elim [ zero ↦ λ l h g. eqb-false _ _ t g | suc j ↦ λ l h g. r .1 j (omega arith) (omega arith) g ]))
-        (r .0)
-    | inr r ↦ inr (suc (r .0), omega arith, (omega arith, omega arith, r .2 .2, elim [ zero ↦ λ l h g. omega arith | suc j ↦ λ l h g. r .2 .3 j (omega arith) (omega arith) g ]))
+      | inl r ↦
+          by-test (eqb (x .letter) 32) (suc i) found (λ f. last ≡ f → Last-space (x ∷ xs) (suc n) i found last)
+          (λ t e. inr (0, omega arith, (omega arith, omega arith, eqb-true _ _ t, elim [ zero ↦ λ l h g. omega arith | suc j ↦ λ l h g. r .1 j (omega arith) (omega arith) g ])))
+          (λ t e. inl (e, elim [ zero ↦ λ l h g. eqb-false _ _ t g | suc j ↦ λ l h g. r .1 j (omega arith) (omega arith) g ]))
+          (r .0)
+      | inr r ↦ inr (suc (r .0), omega arith, (omega arith, omega arith, r .2 .2, elim [ zero ↦ λ l h g. omega arith | suc j ↦ λ l h g. r .2 .3 j (omega arith) (omega arith) g ]))
     ]
 
--- The four ways to cut a row.
+-- The four ways to cut a row: at the end of a paragraph; all that is left; as wide as it may be, where there is no space; and at the last space.
 pub cut-cases : (w : ℕ) (xs : List Cell) (P : Cut → Type 0) →
     ((s : ℕ) → s ≤ w → s < length xs → getD (letters xs) s 0 ≡ 10 → P (record { long = s; skips = 1 })) →
     (length xs ≤ w → P (record { long = length xs; skips = 0 })) →
     (w < length xs → P (record { long = w; skips = 0 })) →
     ((s : ℕ) → s ≤ w → s < length xs → getD (letters xs) s 0 ≡ 32 →
-        ((k : ℕ) → s < k → k ≤ w → (getD (letters xs) k 0 ≡ 32 → ⊥) × (getD (letters xs) k 0 ≡ 10 → ⊥)) → P (record { long = s; skips = 1 })) →
+    ((k : ℕ) → s < k → k ≤ w → (getD (letters xs) k 0 ≡ 32 → ⊥) × (getD (letters xs) k 0 ≡ 10 → ⊥)) → P (record { long = s; skips = 1 })) →
     P (cut w xs)
 unfolding cut-after End-at Space-at Last-space No-space
 cut-cases w xs P at-end all full at-space =
@@ -87,15 +88,16 @@ cut-cases w xs P at-end all full at-space =
         let r = end-found xs (suc w) 0 s e in
         let k : r .0 ≡ suc s - 1 = omega arith in
         subst (λ (m : ℕ). P (record { long = m; skips = 1 })) k (at-end (r .0) (omega arith) (omega arith) (r .2 .2))
+
     broken : first-end xs (suc w) 0 ≡ 0 → w < length xs → (v : ℕ) → Last-space xs (suc w) 0 0 v → P (cut-after w v)
     broken e h zero l = full h
     broken e h (suc s) l =
         elim l [
-          inl r ↦ absurd (omega arith)
-        | inr r ↦
-            let k : r .0 ≡ s = omega arith in
-            subst (λ (m : ℕ). P (record { long = m; skips = 1 })) k
-            (at-space (r .0) (omega arith) (omega arith) (r .2 .2) (λ j a b. (r .2 .3 j a (omega arith), no-end xs (suc w) 0 j e (omega arith))))
+          | inl r ↦ absurd (omega arith)
+          | inr r ↦
+              let k : r .0 ≡ s = omega arith in
+              subst (λ (m : ℕ). P (record { long = m; skips = 1 })) k
+              (at-space (r .0) (omega arith) (omega arith) (r .2 .2) (λ j a b. (r .2 .3 j a (omega arith), no-end xs (suc w) 0 j e (omega arith))))
         ]
 
 pub cut-fits : (w : ℕ) (xs : List Cell) → cut w xs .long ≤ w
@@ -117,16 +119,16 @@ not-earlier w xs i h =
     (λ c. c .skips ≡ 1 → c .long < i → i ≤ w → getD (letters xs) (c .long) 0 ≡ 10 ⊎ ((getD (letters xs) i 0 ≡ 32 → ⊥) × (getD (letters xs) i 0 ≡ 10 → ⊥)))
     (λ s a b e _ _ _. inl e) (λ a e _ _. absurd (omega arith)) (λ a e _ _. absurd (omega arith)) (λ s a b e f _ k l. inr (f i k l))
 
-pub rows-fit-in : (n w i : ℕ) (xs : List Cell) → length (getD (rows-in n w xs) i []) ≤ w
+fit-in : (n w i : ℕ) (xs : List Cell) → length (getD (rows-in n w xs) i []) ≤ w
 unfolding rows-in
-rows-fit-in zero w i xs = omega arith
-rows-fit-in (suc n) w i [] = omega arith
-rows-fit-in (suc n) w zero (x ∷ xs) = omega (arith, cut-fits w (x ∷ xs), length-take (cut w (x ∷ xs) .long) (x ∷ xs))
-rows-fit-in (suc n) w (suc i) (x ∷ xs) = rows-fit-in n w i (drop (step w (x ∷ xs)) (x ∷ xs))
+fit-in zero w i xs = omega arith
+fit-in (suc n) w i [] = omega arith
+fit-in (suc n) w zero (x ∷ xs) = omega (arith, cut-fits w (x ∷ xs), length-take (cut w (x ∷ xs) .long) (x ∷ xs))
+fit-in (suc n) w (suc i) (x ∷ xs) = fit-in n w i (drop (step w (x ∷ xs)) (x ∷ xs))
 
 pub rows-fit : Rows-fit
 unfolding Rows-fit
-rows-fit w i xs _ _ = rows-fit-in (length xs) w i xs
+rows-fit w i xs _ _ = fit-in (length xs) w i xs
 
 -- Letters that are kept: those that are skipped after a row are ends of paragraphs and spaces.
 pub letters-append : (xs ys : List Cell) → letters (xs ++ ys) ≡ letters xs ++ letters ys
@@ -187,18 +189,21 @@ unfolding Letters-kept
 letters-kept w xs h = kept-in (length xs) w xs (omega arith) h
 
 -- The number of rows to make at most does not matter, if it is at least the number of letters.
-pub rows-enough : (n m w : ℕ) (xs : List Cell) → 0 < w → length xs ≤ n → length xs ≤ m → rows-in n w xs ≡ rows-in m w xs
+same-rows : (n m w : ℕ) (xs : List Cell) → 0 < w → length xs ≤ n → length xs ≤ m → rows-in n w xs ≡ rows-in m w xs
 unfolding rows-in
-rows-enough zero zero w xs h k l = refl
-rows-enough zero (suc m) w [] h k l = refl
-rows-enough zero (suc m) w (x ∷ xs) h k l = absurd (omega arith)
-rows-enough (suc n) zero w [] h k l = refl
-rows-enough (suc n) zero w (x ∷ xs) h k l = absurd (omega arith)
-rows-enough (suc n) (suc m) w [] h k l = refl
-rows-enough (suc n) (suc m) w (x ∷ xs) h k l =
+same-rows zero zero w xs h k l = refl
+same-rows zero (suc m) w [] h k l = refl
+same-rows zero (suc m) w (x ∷ xs) h k l = absurd (omega arith)
+same-rows (suc n) zero w [] h k l = refl
+same-rows (suc n) zero w (x ∷ xs) h k l = absurd (omega arith)
+same-rows (suc n) (suc m) w [] h k l = refl
+same-rows (suc n) (suc m) w (x ∷ xs) h k l =
     let e = length-drop (step w (x ∷ xs)) (x ∷ xs) in
     let f = step-moves w (x ∷ xs) h (omega arith) in
-    ap (λ (r : List (List Cell)). take (cut w (x ∷ xs) .long) (x ∷ xs) ∷ r) (rows-enough n m w (drop (step w (x ∷ xs)) (x ∷ xs)) h (omega arith) (omega arith))
+    ap (λ (r : List (List Cell)). take (cut w (x ∷ xs) .long) (x ∷ xs) ∷ r) (same-rows n m w (drop (step w (x ∷ xs)) (x ∷ xs)) h (omega arith) (omega arith))
+
+pub rows-enough : (n w : ℕ) (xs : List Cell) → 0 < w → length xs ≤ n → rows-in n w xs ≡ rows w xs
+rows-enough n w xs h k = same-rows n (length xs) w xs h k (omega arith)
 
 pub rows-none : (w : ℕ) → rows w [] ≡ []
 unfolding rows-in
@@ -209,9 +214,8 @@ unfolding rows-in
 rows-step w [] h k = absurd (omega arith)
 rows-step w (x ∷ xs) h k =
     let e = length-drop (step w (x ∷ xs)) (x ∷ xs) in
-    let f = step-moves w (x ∷ xs) h (omega arith) in
-    ap (λ (r : List (List Cell)). take (cut w (x ∷ xs) .long) (x ∷ xs) ∷ r)
-    (rows-enough (length xs) (length (drop (step w (x ∷ xs)) (x ∷ xs))) w (drop (step w (x ∷ xs)) (x ∷ xs)) h (omega arith) (omega arith))
+    let f = step-moves w (x ∷ xs) h k in
+    ap (λ (r : List (List Cell)). take (cut w (x ∷ xs) .long) (x ∷ xs) ∷ r) (rows-enough (length xs) w (drop (step w (x ∷ xs)) (x ∷ xs)) h (omega arith))
 
 -- The rows after the first n are the rows of what is left after n rows.
 pub rest-none : (w n : ℕ) → rest w n [] ≡ []
@@ -241,9 +245,3 @@ rows-left w n xs h =
     let e : length (rows w xs) - n ≡ length (rows w (rest w n xs)) = sym (length-drop n (rows w xs)) ∙ ap length (rows-rest w n xs h) in
     let a = rows-any w (rest w n xs) h in
     (λ k. a .0 (omega arith), λ k. let b = a .1 k in omega arith)
-
--- row n, as it is cut from what is left after n rows
-pub row-at : (w n : ℕ) (xs : List Cell) → 0 < w → 0 < length (rest w n xs) → getD (rows w xs) n [] ≡ take (cut w (rest w n xs) .long) (rest w n xs)
-row-at w n xs h k =
-    let e : n + 0 ≡ n = omega arith in
-    ap (λ (m : ℕ). getD (rows w xs) m []) (sym e) ∙ sym (getD-drop n (rows w xs) 0 []) ∙ ap (λ (r : List (List Cell)). getD r 0 []) (rows-rest w n xs h ∙ rows-step w (rest w n xs) h k)

@@ -6,6 +6,8 @@ use Rattle.model.specs.Worked.{Worked-papers}
 
 pub worked-papers : Worked-papers
 unfolding Worked-papers new-cells author-of strike accept seen view letters touched call-number good-letters good-fields turned-by rewritten how-much writes remembered moved ran
-worked-papers =
-    (record { everything = refl; as-accepted = refl; as-rejected = refl }, record { everything = refl; as-accepted = refl; as-rejected = refl },
-        record { everything = refl; as-accepted = refl; as-rejected = refl })
+worked-papers = (
+  record { everything = refl; as-accepted = refl; as-rejected = refl },
+  record { everything = refl; as-accepted = refl; as-rejected = refl },
+  record { everything = refl; as-accepted = refl; as-rejected = refl },
+)

@@ -1,8 +1,7 @@
--- A worked paper: what is seen of it, in each of the three ways to look, after each of its calls. Nothing is assumed.
+-- A worked paper: what is seen of it, in each of the three ways to look, as its calls are done. A statement; nothing is assumed.
 use mathlib.Core.Path.{_≡_}
 use mathlib.Core.Bool.{true}
 use mathlib.Core.List.{List, [], _∷_}
-use Prim.Native.Nat.{ℕ}
 use Prim.Native.String.{String}
 use lib.Chars.{codes}
 use Rattle.model.specs.Paper.{view, letters}
@@ -17,7 +16,7 @@ pub record Seen (cs : List Call) (all accepted rejected : String) : Type 0 where
   pub as-accepted : letters (view 1 (ran limits new-desk cs .now .cells)) ≡ codes accepted
   pub as-rejected : letters (view 2 (ran limits new-desk cs .now .cells)) ≡ codes rejected
 
--- Author 1 puts letters in, and that is accepted; author 2 puts a word in; author 3 strikes out that word and the next.
+-- Author 1 puts letters in, and they are accepted; then author 2 puts a word in; then author 3 strikes out that word and the next.
 unfoldable pub Worked-papers : Type 0
 Worked-papers =
     Seen (put 1 0 0 (codes "the cat sat") ∷ (accepts 0 ∷ [])) "the cat sat" "the cat sat" "the cat sat" ×

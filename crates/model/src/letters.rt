@@ -38,14 +38,14 @@ pub fn not_found() -> u8
     0
 }
 
-// Each letter of a paper was put in by a call.
+// Each letter of a paper was put in by a call that was not turned away.
 pub fn nothing_from_nowhere() -> u8
     ensures { λ _. ⌜ Nothing-from-nowhere ⌝ }
 {
     0
 }
 
-// A paper of three people, as it is seen after each of their calls.
+// A paper of three people, as it is seen in each way to look after each one's change.
 pub fn worked_papers() -> u8
     ensures { λ _. ⌜ Worked-papers ⌝ }
 {
