@@ -11,18 +11,18 @@ use Rattle.model.specs.Rows.{rows, find-in}
 
 -- Numbers in a call's fields are of any size here; `good-fields` has their ranges.
 pub data Call : Type 0 where
-  put : ℕ → ℕ → ℕ → List ℕ → Call      -- author, before which cell, style, letters: a change
-  strikes : ℕ → ℕ → ℕ → Call           -- author, from which cell, how many: a change
+  put : ℕ → ℕ → ℕ → List ℕ → Call  -- author, before which cell, style, letters: a change
+  strikes : ℕ → ℕ → ℕ → Call  -- author, from which cell, how many: a change
   accepts : ℕ → Call
   rejects : ℕ → Call
-  styles : ℕ → ℕ → ℕ → Call            -- from which cell, how many, style
+  styles : ℕ → ℕ → ℕ → Call  -- from which cell, how many, style
   undo : Call
   redo : Call
-  show : ℕ → ℕ → ℕ → ℕ → Call          -- way to look, how wide, from which row, how many
-  find : ℕ → ℕ → List ℕ → Call         -- way to look, from which letter, letters
-  count : ℕ → Call                     -- way to look
+  show : ℕ → ℕ → ℕ → ℕ → Call  -- way to look, how wide, from which row, how many
+  find : ℕ → ℕ → List ℕ → Call  -- way to look, from which letter, letters
+  count : ℕ → Call  -- way to look
   change : ℕ → Call
-  save : ℕ → ℕ → Call                  -- of the file: from which number, how many
+  save : ℕ → ℕ → Call  -- of the file: from which number, how many
 
 -- a refusal and its place; a number; two numbers; rows of cells; a row of numbers
 pub data Answer : Type 0 where
@@ -190,8 +190,8 @@ moved l d (save i n) = d
 abbrev pub changed : Limits → Desk → Call → Desk
 changed l d c =
     pick (writes c)
-        (record { now = rewritten (d .now) c; past = remembered (l .undos) (record { paper = d .now; much = how-much (d .now) c } ∷ d .past); future = [] })
-        (moved l d c)
+    (record { now = rewritten (d .now) c; past = remembered (l .undos) (record { paper = d .now; much = how-much (d .now) c } ∷ d .past); future = [] })
+    (moved l d c)
 
 abbrev pub fits : Limits → Paper → Bool
 fits l p = leb (length (p .cells)) (l .cells) && leb (length (p .changes)) (l .changes)

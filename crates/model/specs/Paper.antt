@@ -46,21 +46,21 @@ strike [] n cs a c = []
 strike (x ∷ xs) zero cs a c = x ∷ xs
 strike (x ∷ xs) (suc n) cs a c =
     pick (eqb (author-of cs (x .put-in)) (suc a)) (strike xs n cs a c)
-        (record { letter = x .letter; style = x .style; put-in = x .put-in; struck = pick (eqb (x .struck) 0) (suc c) (x .struck) } ∷ strike xs n cs a c)
+    (record { letter = x .letter; style = x .style; put-in = x .put-in; struck = pick (eqb (x .struck) 0) (suc c) (x .struck) } ∷ strike xs n cs a c)
 
 -- Change number c is accepted: what it put in is put in by nobody from now on, and what it struck out goes.
 unfoldable pub accept : List Cell → ℕ → List Cell
 accept [] c = []
 accept (x ∷ xs) c =
     pick (eqb (x .struck) (suc c)) (accept xs c)
-        (record { letter = x .letter; style = x .style; put-in = pick (eqb (x .put-in) (suc c)) 0 (x .put-in); struck = x .struck } ∷ accept xs c)
+    (record { letter = x .letter; style = x .style; put-in = pick (eqb (x .put-in) (suc c)) 0 (x .put-in); struck = x .struck } ∷ accept xs c)
 
 -- Change number c is rejected: what it put in goes, and what it struck out is struck out by nobody.
 unfoldable pub reject : List Cell → ℕ → List Cell
 reject [] c = []
 reject (x ∷ xs) c =
     pick (eqb (x .put-in) (suc c)) (reject xs c)
-        (record { letter = x .letter; style = x .style; put-in = x .put-in; struck = pick (eqb (x .struck) (suc c)) 0 (x .struck) } ∷ reject xs c)
+    (record { letter = x .letter; style = x .style; put-in = x .put-in; struck = pick (eqb (x .struck) (suc c)) 0 (x .struck) } ∷ reject xs c)
 
 -- the first n cells get the style s
 unfoldable pub styled : List Cell → ℕ → ℕ → List Cell

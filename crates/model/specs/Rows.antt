@@ -34,8 +34,8 @@ cut-after w (suc s) = record { long = s; skips = 1 }
 abbrev pub cut : ℕ → List Cell → Cut
 cut w xs =
     pick (eqb (first-end xs (suc w) 0) 0)
-        (pick (leb (length xs) w) (record { long = length xs; skips = 0 }) (cut-after w (last-space xs (suc w) 0 0)))
-        (record { long = first-end xs (suc w) 0 - 1; skips = 1 })
+    (pick (leb (length xs) w) (record { long = length xs; skips = 0 }) (cut-after w (last-space xs (suc w) 0 0)))
+    (record { long = first-end xs (suc w) 0 - 1; skips = 1 })
 
 -- at most n rows
 unfoldable pub rows-in : ℕ → ℕ → List Cell → List (List Cell)
