@@ -6,7 +6,7 @@ ghost use Prim.Native.Nat.{ℕ, _+_, _*_, _<_, _≤_};
 ghost use lib.ListN.{length, getD, drop};
 ghost use Rattle.std.specs.declared.result.Result.the-variants.{Ok, Err};
 ghost use Rattle.model.specs.Values.{cell-of};
-ghost use Rattle.codec.specs.Bytes.{word-bytes, cells-bytes, answer-bytes};
+ghost use Rattle.codec.specs.Bytes.{word-bytes, words-bytes, cells-bytes, answer-bytes};
 ghost use Rattle.codec.specs.Reading.{reading, call-is, ceases, word-at, head-length, letter-count, call-of};
 ghost use Rattle.codec.specs.Values.{meaning, told};
 ghost use Rattle.codec.specs.Over.{over};
@@ -237,7 +237,7 @@ pub fn cell(out: &mut [u8], at: usize, x: model::Cell) -> usize
 // Writes an answer of two numbers.
 fn pair(out: &mut [u8], which: u8, m: u32, n: u32) -> usize
     requires { ⌜ 9 ≤ length (now out) ⌝ }
-    ensures bytes { λ r. ⌜ now (out .exit) ≡ which ∷ (word-bytes m ++ (word-bytes n ++ drop 9 (now (out .entry)))) ⌝ }
+    ensures bytes { λ r. ⌜ now (out .exit) ≡ over (now (out .entry)) 0 (which ∷ words-bytes (m ∷ (n ∷ []))) ⌝ }
     ensures next { λ r. ⌜ r ≡ 9 ⌝ }
 {
     let at = form(out, 0, which, m);
