@@ -256,3 +256,24 @@ pub fn write(answer: Answer, out: &mut [u8]) -> usize
         Answer::Two(m, n) => pair(out, 2, m, n),
     }
 }
+
+// The bytes of a call are read as that call.
+pub fn reads_back() -> u8
+    ensures { λ _. ⌜ Reads-back ⌝ }
+{
+    0
+}
+
+// Only those bytes are read as it.
+pub fn reads_only() -> u8
+    ensures { λ _. ⌜ Reads-only ⌝ }
+{
+    0
+}
+
+// Two answers with the same bytes are the same answer.
+pub fn one_answer() -> u8
+    ensures { λ _. ⌜ One-answer ⌝ }
+{
+    0
+}
