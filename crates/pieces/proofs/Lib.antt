@@ -1,0 +1,2 @@
+pub mod Strung
+pub mod Texts
