@@ -1,0 +1,5 @@
+use Rattle.session.proofs.Keeping.{main-promise}
+use Rattle.session.proofs.main_promise.Needs as need
+
+pub returns : need.returns
+returns c = main-promise

@@ -1,0 +1,67 @@
+-- What lent memory is: three slices of words, of which each is at least as long as the limits ask for.
+-- cells: the slots of the store. pieces: 0 to 2 the limits, 3 how many changes there are, 4 to 15 nothing (0); from 16 on the changes, two words
+-- each, for as many as the limit allows; after them the tables of the store. undo: nothing in this stage.
+-- Definitions only: nothing is assumed.
+use mathlib.Core.Path.{_≡_}
+use mathlib.Core.Bool.{Bool, _&&_}
+use mathlib.Core.List.{List, []}
+use Prim.Native.Nat.{ℕ, _+_, _-_, _*_, _/_, _≤_, _<_}
+use lib.Dec.{ltb, leb, eqb}
+use lib.ListN.{length, getD, drop}
+use Rattle.model.specs.Paper.{pick, Paper}
+use Rattle.model.specs.Calls.{Desk, Limits}
+use Rattle.model.specs.Promise.{thin}
+use Rattle.changes.specs.Row.{changes-of}
+use Rattle.pieces.specs.Store.{Store, cells-of}
+
+-- which calls can be done, by number
+abbrev pub stage : ℕ → Bool
+stage = thin
+
+-- how many slots of 1,024 cells there are for so many cells
+abbrev pub slots-for : ℕ → ℕ
+slots-for n = n / 576 + 4
+
+-- how many words each slice has to have
+abbrev pub cells-words : ℕ → ℕ
+cells-words n = 4096 * slots-for n
+
+abbrev pub pieces-words : ℕ → ℕ
+pieces-words c = 6160 + 2 * c
+
+abbrev pub undo-words : ℕ → ℕ
+undo-words u = 0
+
+-- the limits that memory was opened with
+abbrev pub limits-of : List ℕ → Limits
+limits-of ps = record { calls-can = stage; cells = getD ps 0 0; changes = getD ps 1 0; undos = getD ps 2 0 }
+
+-- the store's tables
+abbrev pub tables : List ℕ → List ℕ
+tables ps = drop (16 + 2 * getD ps 1 0) ps
+
+-- the paper that memory stands for
+abbrev pub paper-of : List ℕ → List ℕ → Paper
+paper-of cs ps = record { cells = cells-of cs (tables ps) (slots-for (getD ps 0 0)); changes = changes-of (drop 16 ps) (getD ps 3 0) }
+
+-- what always holds of memory once it was opened
+pub record Sound (cs ps us : List ℕ) : Type 0 where
+  pub few-cells : getD ps 0 0 ≤ 1000000
+  pub few-changes : getD ps 1 0 ≤ 65536
+  pub few-undos : getD ps 2 0 ≤ 1000000
+  pub cells-long : cells-words (getD ps 0 0) ≤ length cs
+  pub pieces-long : pieces-words (getD ps 1 0) ≤ length ps
+  pub undo-long : undo-words (getD ps 2 0) ≤ length us
+  pub store : Store cs (tables ps) (slots-for (getD ps 0 0))
+  pub cells-fit : length (paper-of cs ps .cells) ≤ getD ps 0 0
+  pub changes-fit : getD ps 3 0 ≤ getD ps 1 0
+
+-- Memory stands for a desk. No call of this stage can tell of what could be undone or redone, so that nothing is said of it.
+pub record Stands (cs ps us : List ℕ) (d : Desk) : Type 0 where
+  pub sound : Sound cs ps us
+  pub paper : d .now ≡ paper-of cs ps
+
+-- Word k of the pieces after opening: the limits, the slots in order, and 0 elsewhere.
+abbrev pub opened-word : ℕ → ℕ → ℕ → ℕ → ℕ
+opened-word n c u k =
+    pick (eqb k 0) n (pick (eqb k 1) c (pick (eqb k 2) u (pick (leb (16 + 2 * c) k && ltb k (16 + 2 * c + slots-for n)) (k - (16 + 2 * c)) 0)))
