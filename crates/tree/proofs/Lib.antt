@@ -2,3 +2,4 @@
 pub mod Total
 pub mod Node
 mod Descent
+mod Update

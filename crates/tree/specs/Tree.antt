@@ -2,7 +2,7 @@
 use mathlib.Core.List.{List}
 use mathlib.Core.Path.{_≡_}
 use Prim.Native.Nat.{ℕ, zero, suc, _+_, _*_, _^_, _≤_, _<_}
-use lib.ListN.{length, getD}
+use lib.ListN.{length, getD, set}
 
 -- the leftmost node h levels below the node n
 unfoldable pub leftmost : ℕ → ℕ → ℕ
@@ -17,6 +17,10 @@ total t k (suc n) = getD t k 0 + total t (k + 1) n
 -- word i is the sum of its children
 abbrev pub Sum : List ℕ → ℕ → Type 0
 Sum t i = getD t i 0 ≡ getD t (2 * i) 0 + getD t (2 * i + 1) 0
+
+-- word i made the sum of its children
+abbrev pub added : List ℕ → ℕ → List ℕ
+added t i = set t i (getD t (2 * i) 0 + getD t (2 * i + 1) 0)
 
 -- no leaf counts more than 1,024, so that no sum overflows
 abbrev pub Light : List ℕ → Type 0
