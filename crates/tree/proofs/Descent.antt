@@ -1,11 +1,11 @@
 -- One step of a descent, from a node over the place to the child over it, and its end at a leaf.
 use mathlib.Core.List.{List}
-use mathlib.Core.Path.{_≡_, refl, sym, ap, _∙_}
-use Prim.Native.Nat.{ℕ, zero, suc, _+_, _-_, _*_, _^_, _≤_, _<_}
+use mathlib.Core.Path.{_≡_, refl, ap, _∙_}
+use Prim.Native.Nat.{ℕ, suc, _+_, _-_, _*_, _^_, _≤_, _<_}
 use native.Mathlib.Omega.{arith}
-use lib.ListN.{getD, length}
+use lib.ListN.{getD}
 use lib.Pow.{pow-pos}
-use Rattle.tree.specs.Tree.{leftmost, total, Sum, Sums, Found, Over}
+use Rattle.tree.specs.Tree.{leftmost, total, Sums, Found, Over}
 use Rattle.tree.proofs.Total.{total-split, total-none}
 use Rattle.tree.proofs.Node.{above-root, double, leftmost-le, leftmost-next, node-total}
 

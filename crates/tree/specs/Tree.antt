@@ -26,6 +26,7 @@ added t i = set t i (getD t (2 * i) 0 + getD t (2 * i + 1) 0)
 abbrev pub Light : List ℕ → Type 0
 Light t = (j : ℕ) → j < 2048 → getD t (2048 + j) 0 ≤ 1024
 
+-- a whole tree: every node above the leaves is the sum of its children
 pub record Sums (t : List ℕ) : Type 0 where
   pub long : 4096 ≤ length t
   pub sums : (i : ℕ) → 0 < i → i < 2048 → Sum t i
