@@ -2,5 +2,6 @@ mod Readings
 pub mod Writes
 mod Words
 mod OneAnswer
+mod ReadableIs
 mod ReadsBack
 mod ReadsOnly
