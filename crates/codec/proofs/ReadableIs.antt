@@ -15,8 +15,9 @@ use Rattle.codec.specs.Laws.{Readable-is}
 last-byte : (n : ℕ) → ltb (n / 16777216) 256 ≡ ltb n 4294967296
 last-byte n =
     elim (cases-lt n 4294967296) [
-      inl h ↦ lt-ltb (n / 16777216) 256 (omega arith) ∙ sym (lt-ltb n 4294967296 h)
-    | inr h ↦ le-ltb (n / 16777216) 256 (omega arith) ∙ sym (le-ltb n 4294967296 h) ]
+      | inl h ↦ lt-ltb (n / 16777216) 256 (omega arith) ∙ sym (lt-ltb n 4294967296 h)
+      | inr h ↦ le-ltb (n / 16777216) 256 (omega arith) ∙ sym (le-ltb n 4294967296 h)
+    ]
 
 below-word : (n : ℕ) (bs : List ℕ) → all-below 256 (word-bytes n ++ bs) ≡ (ltb n 4294967296 && all-below 256 bs)
 unfolding word-bytes all-below
@@ -25,15 +26,15 @@ below-word n bs =
 
 pub readable-is : Readable-is
 unfolding call-bytes words-bytes readable all-below
-readable-is (put a i s ls) = simp (below-word, append-assoc, and-assoc, and-true)
-readable-is (strikes a i n) = simp (below-word, append-assoc, and-assoc, and-true)
-readable-is (accepts c) = simp (below-word, append-assoc, and-assoc, and-true)
-readable-is (rejects c) = simp (below-word, append-assoc, and-assoc, and-true)
-readable-is (styles i n s) = simp (below-word, append-assoc, and-assoc, and-true)
+readable-is (put a i s ls) = simp (below-word, append-assoc, and-assoc)
+readable-is (strikes a i n) = simp (below-word, and-true)
+readable-is (accepts c) = simp (below-word, and-true)
+readable-is (rejects c) = simp (below-word, and-true)
+readable-is (styles i n s) = simp (below-word, and-true)
 readable-is undo = refl
 readable-is redo = refl
-readable-is (show k w r n) = simp (below-word, append-assoc, and-assoc, and-true)
-readable-is (find k i ls) = simp (below-word, append-assoc, and-assoc, and-true)
-readable-is (count k) = simp (below-word, append-assoc, and-assoc, and-true)
-readable-is (change c) = simp (below-word, append-assoc, and-assoc, and-true)
-readable-is (save i n) = simp (below-word, append-assoc, and-assoc, and-true)
+readable-is (show k w r n) = simp (below-word, and-assoc, and-true)
+readable-is (find k i ls) = simp (below-word, append-assoc, and-assoc)
+readable-is (count k) = simp (below-word, and-true)
+readable-is (change c) = simp (below-word, and-true)
+readable-is (save i n) = simp (below-word, and-true)
