@@ -1,6 +1,7 @@
-mod Readings
 pub mod Writes
 mod Words
-mod OneAnswer
-mod ReadsBack
-mod ReadsOnly
+mod Readings
+pub mod ReadableIs
+pub mod ReadsBack
+pub mod ReadsOnly
+pub mod OneAnswer

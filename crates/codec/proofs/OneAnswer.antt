@@ -29,10 +29,10 @@ abbrev answer-from : List ℕ → Answer
 answer-from bs =
     let t : ℕ = getD bs 0 0 in
     pick (eqb t 0) (refused (word-at bs 1) (word-at bs 5))
-        (pick (eqb t 1) (number (word-at bs 1))
-        (pick (eqb t 2) (two (word-at bs 1) (word-at bs 5))
-        (pick (eqb t 3) (lines (rows-from (word-at bs 1) (drop 5 bs)))
-        (numbers (words-from (word-at bs 1) (drop 5 bs))))))
+    (pick (eqb t 1) (number (word-at bs 1))
+    (pick (eqb t 2) (two (word-at bs 1) (word-at bs 5))
+    (pick (eqb t 3) (lines (rows-from (word-at bs 1) (drop 5 bs)))
+    (numbers (words-from (word-at bs 1) (drop 5 bs))))))
 
 words-back : (ns : List ℕ) → words-from (length ns) (words-bytes ns) ≡ ns
 unfolding words-bytes word-bytes

@@ -1,5 +1,5 @@
 -- A number and its four bytes.
-use mathlib.Core.Path.{_≡_, refl, sym, ap, _∙_}
+use mathlib.Core.Path.{_≡_}
 use mathlib.Core.Bool.{true}
 use mathlib.Core.List.{List, [], _∷_, _++_, append-assoc}
 use Prim.Native.Nat.{ℕ, zero, suc, _+_, _*_, _/_, _%_, _≤_, _<_}
@@ -9,7 +9,7 @@ use lib.Arith.{digits-div, digits-mod}
 use lib.Dec.{ltb}
 use lib.ListN.{length, getD, drop}
 use Rattle.std.proofs.shelf.Lists.{drop-more}
-use Rattle.std.proofs.shelf.Tests.{ltb-true, lt-ltb, and-parts}
+use Rattle.std.proofs.shelf.Tests.{ltb-true, and-parts}
 use Rattle.model.specs.Promise.{all-below}
 use Rattle.codec.specs.Bytes.{word-bytes, words-bytes}
 use Rattle.codec.specs.Reading.{word-at}
@@ -44,26 +44,16 @@ below-at [] h i = omega arith
 below-at (x ∷ bs) h zero = ltb-true x 256 (and-parts (ltb x 256) (all-below 256 bs) h .0)
 below-at (x ∷ bs) h (suc i) = below-at bs (and-parts (ltb x 256) (all-below 256 bs) h .1) i
 
-pub below-drop : (n : ℕ) (bs : List ℕ) → all-below 256 bs ≡ true → all-below 256 (drop n bs) ≡ true
-unfolding all-below
-below-drop zero bs h = h
-below-drop (suc n) [] h = h
-below-drop (suc n) (x ∷ bs) h = below-drop n bs (and-parts (ltb x 256) (all-below 256 bs) h .1)
-
 -- the numbers at a place, four bytes each
 abbrev pub words-at : List ℕ → ℕ → ℕ → List ℕ
 words-at bs at zero = []
 words-at bs at (suc k) = word-at bs at ∷ words-at bs (at + 4) k
 
 module _ (bs : List ℕ) (below : all-below 256 bs ≡ true) where
-  pub word-fits : (at : ℕ) → ltb (word-at bs at) 4294967296 ≡ true
-  word-fits at =
-      lt-ltb (word-at bs at) 4294967296 (omega (arith, below-at bs below at, below-at bs below (at + 1), below-at bs below (at + 2), below-at bs below (at + 3)))
-
   word-split : (at : ℕ) → at + 4 ≤ length bs → drop at bs ≡ word-bytes (word-at bs at) ++ drop (at + 4) bs
   word-split at h =
       let w = bytes-back (getD bs at 0) (getD bs (at + 1) 0) (getD bs (at + 2) 0) (getD bs (at + 3) 0) (below-at bs below at) (below-at bs below (at + 1))
-              (below-at bs below (at + 2)) in
+      (below-at bs below (at + 2)) in
       let d0 = drop-more bs at 0 (omega arith) in
       let d1 = drop-more bs (at + 1) 0 (omega arith) in
       let d2 = drop-more bs (at + 2) 0 (omega arith) in

@@ -96,6 +96,29 @@ unfolding rows-bytes
 rows-bytes-push [] r = simp append-nil
 rows-bytes-push (q ∷ rs) r = simp (rows-bytes-push rs r, append-assoc)
 
+-- The steps of a caller, after what it had written before: a number of a row of numbers, a cell of a row, and the end of a row, whose count
+-- stands before its cells.
+module _ (out : List ℕ) (at : ℕ) (before : List ℕ) where
+  pub words-step : (ns : List ℕ) (n : ℕ) {place : ℕ} {first second : List ℕ} → first ≡ over out at (before ++ words-bytes ns) → place ≡ at + length (before ++ words-bytes ns)
+      → place ≤ length out → second ≡ over first place (word-bytes n) → second ≡ over out at (before ++ words-bytes (ns ++ (n ∷ [])))
+  words-step ns n f e fits g =
+      let s = over-step out at (before ++ words-bytes ns) (word-bytes n) f e fits g in
+      let a = append-assoc before (words-bytes ns) (word-bytes n) in
+      let p = words-bytes-push ns n in
+      cc
+
+  pub cells-step : (xs : List Cell) (x : Cell) {place : ℕ} {first second : List ℕ} → first ≡ over out at (before ++ cells-bytes xs) → place ≡ at + length (before ++ cells-bytes xs)
+      → place ≤ length out → second ≡ over first place (cells-bytes (x ∷ [])) → second ≡ over out at (before ++ cells-bytes (xs ++ (x ∷ [])))
+  cells-step xs x f e fits g =
+      let s = over-step out at (before ++ cells-bytes xs) (cells-bytes (x ∷ [])) f e fits g in
+      let a = append-assoc before (cells-bytes xs) (cells-bytes (x ∷ [])) in
+      let p = cells-bytes-push xs x in
+      cc
+
+pub rows-step : (before : List ℕ) (rs : List (List Cell)) (r : List Cell)
+    → ((before ++ rows-bytes rs) ++ word-bytes (length r)) ++ cells-bytes r ≡ before ++ rows-bytes (rs ++ (r ∷ []))
+rows-step before rs r = simp (append-assoc, rows-bytes-push)
+
 -- rows of at most w cells
 pub rows-bytes-fit : (w : ℕ) (rs : List (List Cell)) → ((i : ℕ) → i < length rs → length (getD rs i []) ≤ w) → length (rows-bytes rs) ≤ (4 + 16 * w) * length rs
 unfolding rows-bytes word-bytes

@@ -8,6 +8,10 @@ use Rattle.model.specs.Promise.{readable, all-below}
 use Rattle.codec.specs.Bytes.{call-bytes, answer-bytes}
 use Rattle.codec.specs.Reading.{reading, call-is}
 
+-- a call is readable if, and only if, its bytes are bytes
+abbrev pub Readable-is : Type 0
+Readable-is = (c : Call) → readable c ≡ all-below 256 (call-bytes c)
+
 -- the bytes of a call whose numbers fit four bytes and whose letters fit one are read as that call
 abbrev pub Reads-back : Type 0
 Reads-back = (c : Call) → readable c ≡ true → reading (call-bytes c) ≡ call-is c

@@ -10,7 +10,7 @@ ghost use Rattle.codec.specs.Bytes.{word-bytes, words-bytes, cells-bytes, answ
 ghost use Rattle.codec.specs.Reading.{reading, call-is, ceases, word-at, head-length, letter-count, call-of};
 ghost use Rattle.codec.specs.Values.{meaning, told};
 ghost use Rattle.codec.specs.Over.{over};
-ghost use Rattle.codec.specs.Laws.{Reads-back, Reads-only, One-answer};
+ghost use Rattle.codec.specs.Laws.{Readable-is, Reads-back, Reads-only, One-answer};
 
 // The numbers of a call. The letters of Put and Find are not in it: they stand beside it, where they came.
 #[derive(Clone, Copy)]
@@ -255,6 +255,13 @@ pub fn write(answer: Answer, out: &mut [u8]) -> usize
         Answer::Number(n) => form(out, 0, 1, n),
         Answer::Two(m, n) => pair(out, 2, m, n),
     }
+}
+
+// A call is readable if, and only if, each of its bytes is below 256.
+pub fn readable_is() -> u8
+    ensures { λ _. ⌜ Readable-is ⌝ }
+{
+    0
 }
 
 // The bytes of a call are read as that call.

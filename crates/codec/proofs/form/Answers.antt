@@ -9,6 +9,7 @@ pub returns : need.returns
 returns c =
     record {
       bytes =
-        over-step (c .args .out .now) (c .args .at) (c .args .which ∷ []) (word-bytes (c .args .n)) (set-over (c .args .out .now) (c .args .at) (c .args .which) (omega arith)) (omega arith) (omega arith)
-        (c .number .ensures .bytes);
-      next = omega arith }
+          over-step (c .args .out .now) (c .args .at) (c .args .which ∷ []) (word-bytes (c .args .n)) (set-over (c .args .out .now) (c .args .at) (c .args .which) (omega arith)) (omega arith) (omega arith)
+          (c .number .ensures .bytes);
+      next = omega arith;
+    }

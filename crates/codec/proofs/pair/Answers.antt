@@ -10,5 +10,6 @@ unfolding words-bytes word-bytes
 returns c =
     record {
       bytes =
-        over-step (c .args .out .now) 0 (c .args .which ∷ word-bytes (c .args .m)) (word-bytes (c .args .n)) (c .form-at .ensures .bytes) (omega arith) (omega arith) (c .number .ensures .bytes);
-      next = omega arith }
+          over-step (c .args .out .now) 0 (c .args .which ∷ word-bytes (c .args .m)) (word-bytes (c .args .n)) (c .form-at .ensures .bytes) (omega arith) (omega arith) (c .number .ensures .bytes);
+      next = omega arith;
+    }

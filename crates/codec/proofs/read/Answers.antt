@@ -13,8 +13,9 @@ use Rattle.codec.proofs.read.Needs.{then-len-eq0·by·then-len-eq0, then-len-e
 pub returns-then-len-eq0 : need.returns-then-len-eq0
 returns-then-len-eq0 c =
     elim (c .then-len-eq0 .came) [
-      then-len-eq0·by·then-len-eq0 w ↦ (no-byte (c .args .bytes .now) (w .if-len-eq0 .taken), omega arith)
-    | then-len-eq0·by·else-len-eq0·then-bytes-ge12 w ↦ (no-call (c .args .bytes .now) (w .if-bytes-ge12 .taken), omega arith) ]
+      | then-len-eq0·by·then-len-eq0 w ↦ (no-byte (c .args .bytes .now) (w .if-len-eq0 .taken), omega arith)
+      | then-len-eq0·by·else-len-eq0·then-bytes-ge12 w ↦ (no-call (c .args .bytes .now) (w .if-bytes-ge12 .taken), omega arith)
+    ]
 
 pub returns-then-len-head : need.returns-then-len-head
 returns-then-len-head c =
