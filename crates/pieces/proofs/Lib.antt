@@ -1,2 +1,4 @@
 pub mod Strung
 pub mod Texts
+pub mod Counts
+pub mod Cleared
