@@ -2,3 +2,4 @@ pub mod Strung
 pub mod Texts
 pub mod Counts
 pub mod Cleared
+pub mod Change
