@@ -1,11 +1,11 @@
 -- One step of a descent, from a node over the place to the child over it, and its end at a leaf.
 use mathlib.Core.List.{List}
-use mathlib.Core.Path.{_≡_, refl, sym, ap, _∙_}
-use Prim.Native.Nat.{ℕ, zero, suc, _+_, _-_, _*_, _^_, _≤_, _<_}
+use mathlib.Core.Path.{_≡_, refl, ap, _∙_}
+use Prim.Native.Nat.{ℕ, suc, _+_, _-_, _*_, _^_, _≤_, _<_}
 use native.Mathlib.Omega.{arith}
-use lib.ListN.{getD, length}
+use lib.ListN.{getD}
 use lib.Pow.{pow-pos}
-use Rattle.tree.specs.Tree.{leftmost, total, Sum, Sums, Found, Over}
+use Rattle.tree.specs.Tree.{leftmost, total, Sums, Found, Over}
 use Rattle.tree.proofs.Total.{total-split, total-none}
 use Rattle.tree.proofs.Node.{above-root, double, leftmost-le, leftmost-next, node-total}
 
@@ -58,11 +58,11 @@ module _ (t : List ℕ) (n h place : ℕ) (pos : 0 < h) (o : Over t n h place) w
         node = omega (arith, o .node);
         first = omega (arith, o .first, down);
         last = omega (arith, o .last, down, twice);
-        inside = l
+        inside = l;
       }
 
   pub found-left :
-    (k offset : ℕ) → Found t (total t 2048 (leftmost (2 * n) (h - 1) - 2048) + place) k offset → Found t (total t 2048 (leftmost n h - 2048) + place) k offset
+      (k offset : ℕ) → Found t (total t 2048 (leftmost (2 * n) (h - 1) - 2048) + place) k offset → Found t (total t 2048 (leftmost n h - 2048) + place) k offset
   found-left k offset f = rw down f
 
   pub over-right : getD t (2 * n) 0 ≤ place → Over t (2 * n + 1) (h - 1) (place - getD t (2 * n) 0)
@@ -72,22 +72,22 @@ module _ (t : List ℕ) (n h place : ℕ) (pos : 0 < h) (o : Over t n h place) w
         node = omega arith;
         first = omega (arith, o .first, next, down);
         last = omega (arith, o .last, next, down, twice);
-        inside = omega (arith, o .inside, o .sums .sums n (o .node) inner)
+        inside = omega (arith, o .inside, o .sums .sums n (o .node) inner);
       }
 
   before : total t 2048 (leftmost (2 * n + 1) (h - 1) - 2048) ≡ total t 2048 (leftmost n h - 2048) + getD t (2 * n) 0
   before =
       let w : getD t (2 * n) 0 ≡ total t (leftmost (2 * n) (h - 1)) (2 ^ (h - 1)) =
-            node-total t (2 * n) (h - 1) (above-root t (o .sums) (2 * n) (omega (arith, o .node))) (omega (arith, o .last, down, twice))
-          in
+      node-total t (2 * n) (h - 1) (above-root t (o .sums) (2 * n) (omega (arith, o .node))) (omega (arith, o .last, down, twice))
+      in
       let s = total-split t 2048 (leftmost n h - 2048) (2 ^ (h - 1)) in
       let e : leftmost (2 * n + 1) (h - 1) - 2048 ≡ leftmost n h - 2048 + 2 ^ (h - 1) = omega (arith, next, down, o .first) in
       let d : 2048 + (leftmost n h - 2048) ≡ leftmost (2 * n) (h - 1) = omega (arith, o .first, down) in
       cc
 
   pub found-right :
-    (k offset : ℕ)
-    → getD t (2 * n) 0 ≤ place
-    → Found t (total t 2048 (leftmost (2 * n + 1) (h - 1) - 2048) + (place - getD t (2 * n) 0)) k offset
-    → Found t (total t 2048 (leftmost n h - 2048) + place) k offset
+      (k offset : ℕ)
+      → getD t (2 * n) 0 ≤ place
+      → Found t (total t 2048 (leftmost (2 * n + 1) (h - 1) - 2048) + (place - getD t (2 * n) 0)) k offset
+      → Found t (total t 2048 (leftmost n h - 2048) + place) k offset
   found-right k offset l f = record { within = f .within; sum = omega (arith, f .sum, before); inside = f .inside }

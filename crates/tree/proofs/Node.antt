@@ -1,6 +1,6 @@
 -- The nodes of the tree: a node holds the total of the leaves below it, which fits a word.
 use mathlib.Core.List.{List}
-use mathlib.Core.Path.{_≡_, refl, sym, ap, _∙_}
+use mathlib.Core.Path.{_≡_, refl, sym}
 use Prim.Native.Nat.{ℕ, zero, suc, _+_, _-_, _*_, _^_, _≤_, _<_}
 use native.Mathlib.Nat.{pow-suc}
 use native.Mathlib.Decide.{decLt}
@@ -41,8 +41,8 @@ node-total t n (suc h) above last =
     let next : leftmost (2 * n + 1) h ≡ leftmost (2 * n) h + 2 ^ h = leftmost-next (2 * n) h in
     let left : getD t (2 * n) 0 ≡ total t (leftmost (2 * n) h) (2 ^ h) = node-total t (2 * n) h (λ i a b. above i (omega arith) b) (omega arith) in
     let right : getD t (2 * n + 1) 0 ≡ total t (leftmost (2 * n + 1) h) (2 ^ h) =
-          node-total t (2 * n + 1) h (λ i a b. above i (omega arith) b) (omega arith)
-        in
+    node-total t (2 * n + 1) h (λ i a b. above i (omega arith) b) (omega arith)
+    in
     let right′ : getD t (2 * n + 1) 0 ≡ total t (leftmost (2 * n) h + 2 ^ h) (2 ^ h) = rw next at right in
     let both : Sum t n = above n (omega arith) (omega (arith, leftmost-le (2 * n) h, pow-pos h)) in
     rw d (omega (arith, total-split t (leftmost (2 * n) h) (2 ^ h) (2 ^ h)))
@@ -67,15 +67,15 @@ bound t n zero above light below from = leaf-small t n light below from
 bound t n (suc h) above light below from =
     let d : 2 ^ suc h ≡ 2 ^ h + 2 ^ h = double h in
     elim (decLt n 2048) [
-      yes inner ↦
-        let both : Sum t n = above n (omega arith) inner in
-        let next : leftmost (2 * n + 1) h ≡ leftmost (2 * n) h + 2 ^ h = leftmost-next (2 * n) h in
-        let left : getD t (2 * n) 0 ≤ 1024 * 2 ^ h = bound t (2 * n) h (λ i a b. above i (omega arith) b) light (omega arith) from in
-        let right : getD t (2 * n + 1) 0 ≤ 1024 * 2 ^ h =
-              bound t (2 * n + 1) h (λ i a b. above i (omega arith) b) light (omega arith) (omega arith)
-            in
-        omega arith
-    | no outer ↦ omega (arith, leaf-small t n light below (omega arith), pow-pos h)
+      | yes inner ↦
+          let both : Sum t n = above n (omega arith) inner in
+          let next : leftmost (2 * n + 1) h ≡ leftmost (2 * n) h + 2 ^ h = leftmost-next (2 * n) h in
+          let left : getD t (2 * n) 0 ≤ 1024 * 2 ^ h = bound t (2 * n) h (λ i a b. above i (omega arith) b) light (omega arith) from in
+          let right : getD t (2 * n + 1) 0 ≤ 1024 * 2 ^ h =
+          bound t (2 * n + 1) h (λ i a b. above i (omega arith) b) light (omega arith) (omega arith)
+          in
+          omega arith
+      | no outer ↦ omega (arith, leaf-small t n light below (omega arith), pow-pos h)
     ]
 
 -- no node is too large to be added to another

@@ -2,7 +2,7 @@
 use mathlib.Core.List.{List}
 use mathlib.Core.Path.{_≡_}
 use Prim.Native.Nat.{ℕ, zero, suc, _+_, _*_, _^_, _≤_, _<_}
-use lib.ListN.{length, getD}
+use lib.ListN.{length, getD, set}
 
 -- the leftmost node h levels below the node n
 unfoldable pub leftmost : ℕ → ℕ → ℕ
@@ -18,10 +18,15 @@ total t k (suc n) = getD t k 0 + total t (k + 1) n
 abbrev pub Sum : List ℕ → ℕ → Type 0
 Sum t i = getD t i 0 ≡ getD t (2 * i) 0 + getD t (2 * i + 1) 0
 
+-- word i made the sum of its children
+abbrev pub added : List ℕ → ℕ → List ℕ
+added t i = set t i (getD t (2 * i) 0 + getD t (2 * i + 1) 0)
+
 -- no leaf counts more than 1,024, so that no sum overflows
 abbrev pub Light : List ℕ → Type 0
 Light t = (j : ℕ) → j < 2048 → getD t (2048 + j) 0 ≤ 1024
 
+-- a whole tree: every node above the leaves is the sum of its children
 pub record Sums (t : List ℕ) : Type 0 where
   pub long : 4096 ≤ length t
   pub sums : (i : ℕ) → 0 < i → i < 2048 → Sum t i

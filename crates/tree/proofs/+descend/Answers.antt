@@ -19,16 +19,16 @@ pub index-t-child : need.index-t-child
 index-t-child t c = omega (arith, inner _ _ _ _ (omega arith) (c .pre), c .pre .sums .long)
 
 pub descend-requires : need.descend-requires
-descend-requires t c κs = (omega arith, over-left _ _ _ _ (omega arith) (c .pre) (c .if-place-left .taken))
+descend-requires t c κs = (omega arith, over-left _ _ _ _ (omega arith) (c .pre) (omega arith))
 
 pub add-child : need.add-child
 add-child t c = omega (arith, inner _ _ _ _ (omega arith) (c .pre))
 
 pub descend-requires-else-place-left : need.descend-requires-else-place-left
-descend-requires-else-place-left t c κs = (omega arith, over-right _ _ _ _ (omega arith) (c .pre) (c .if-place-left .left))
+descend-requires-else-place-left t c κs = (omega arith, over-right _ _ _ _ (omega arith) (c .pre) (omega arith))
 
 pub returns-then-place-left : need.returns-then-place-left
 returns-then-place-left t c = found-left _ _ _ _ (omega arith) (c .pre) _ _ (c .descend .ensures)
 
 pub returns-else-place-left : need.returns-else-place-left
-returns-else-place-left t c = found-right _ _ _ _ (omega arith) (c .pre) _ _ (c .if-place-left .left) (c .descend-else-place-left .ensures)
+returns-else-place-left t c = found-right _ _ _ _ (omega arith) (c .pre) _ _ (omega arith) (c .descend-else-place-left .ensures)
