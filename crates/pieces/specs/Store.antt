@@ -3,8 +3,9 @@
 -- that one which is not used has no cells. The text is all pieces, one after the other.
 use mathlib.Core.Path.{_≡_}
 use mathlib.Core.List.{List, [], _∷_, _++_}
-use Prim.Native.Nat.{ℕ, zero, suc, _+_, _*_, _≤_, _<_}
-use lib.ListN.{length, getD, drop}
+use Prim.Native.Nat.{ℕ, zero, suc, _+_, _-_, _*_, _≤_, _<_}
+use lib.ListN.{length, getD, drop, replicate}
+use Rattle.std.specs.Iters.{counting}
 use Rattle.model.specs.Paper.{Cell}
 use Rattle.slots.specs.Cells.{cellAt, cellsAt}
 use Rattle.tree.specs.Tree.{Sums}
@@ -81,3 +82,16 @@ pub record Frame (c p d q : List ℕ) (s : ℕ) : Type 0 where
   pub words-past : drop 6144 q ≡ drop 6144 p
   -- words between the order and the tree
   pub spare : (k : ℕ) → s ≤ k → k < 2048 → getD q k 0 ≡ getD p k 0
+
+-- cell `place` of the text is cell o of piece k
+pub record Located (p : List ℕ) (s place k o : ℕ) : Type 0 where
+  pub here : k < s
+  pub within : o < used p k
+  pub sum : before p k + o ≡ place
+
+-- a store of s slots that has just been cleared, over memory that was c and p
+abbrev pub cleared-cells : List ℕ → ℕ → List ℕ
+cleared-cells c s = replicate (4096 * s) 0 ++ drop (4096 * s) c
+
+abbrev pub cleared-words : List ℕ → ℕ → List ℕ
+cleared-words p s = counting 0 s ++ (replicate (6144 - s) 0 ++ drop 6144 p)
