@@ -11,8 +11,11 @@ ghost use Rattle.pieces.specs.Store.{used as uses, number, cells-of, before, n
 use model::Cell;
 
 const CELLS: usize = 1024;
+
 const TREE: usize = 2048;
+
 const LEAVES: usize = 4096;
+
 const WORDS: usize = 6144;
 
 // A piece, and a place in it.
@@ -99,7 +102,7 @@ pub fn clear(c: &mut [u32], p: &mut [u32], s: usize)
 }
 
 // The first `n` words become 0.
-fn zero(w: &mut [u32], n: usize)
+pub fn zero(w: &mut [u32], n: usize)
     requires { ⌜ n ≤ length (now w) ⌝ }
     ensures { λ _. ⌜ now (w .exit) ≡ replicate n 0 ++ drop n (now (w .entry)) ⌝ }
 {

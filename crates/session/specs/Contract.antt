@@ -1,16 +1,18 @@
 -- What open and call promise of lent memory and of the answer. Definitions only: nothing is assumed.
 use mathlib.Core.Path.{_≡_}
 use mathlib.Core.Bool.{Bool, true, false, _&&_}
-use mathlib.Core.List.{List, [], _∷_}
+use mathlib.Core.List.{List, [], _∷_, _++_}
 use Prim.Native.Nat.{ℕ, _+_, _-_, _*_, _/_, _≤_, _<_, min}
 use lib.Dec.{ltb, leb, eqb}
 use lib.ListN.{length, getD, drop}
 use Rattle.model.specs.Paper.{pick}
 use Rattle.model.specs.Calls.{Call, Answer, refused, Desk, Limits, turned, after, answer, new-desk}
-use Rattle.model.specs.Promise.{all-below}
 use Rattle.codec.specs.Bytes.{answer-bytes}
 use Rattle.codec.specs.Reading.{Reading, reading, call-is, ceases}
-use Rattle.session.specs.Memory.{cells-words, pieces-words, undo-words, limits-of, Sound, Stands, opened-word}
+use Rattle.session.specs.Memory.{cells-words, pieces-words, undo-words, limits-of, Sound, Stands, opened-cells, opened-pieces, opened-undo}
+use Rattle.session.specs.declared.Refusal.{Refusal}
+use Rattle.std.specs.declared.result.Result.{Result}
+use Rattle.std.specs.declared.result.Result.the-variants.{Ok, Err}
 
 -- A call that can be read, at a desk that memory stands for: memory then stands for the desk after it, the answer is the desk's, and a
 -- call that is turned away has changed no word.
@@ -36,7 +38,7 @@ pub record Beyond (cs ps us cs′ ps′ us′ : List ℕ) (l : Limits) : Type 0 
 
 -- every word fits four bytes
 abbrev pub Fit : List ℕ → List ℕ → List ℕ → Type 0
-Fit cs ps us = (all-below 4294967296 cs ≡ true) × (all-below 4294967296 ps ≡ true) × (all-below 4294967296 us ≡ true)
+Fit cs ps us = ((i : ℕ) → getD cs i 0 < 4294967296) × ((i : ℕ) → getD ps i 0 < 4294967296) × ((i : ℕ) → getD us i 0 < 4294967296)
 
 -- What a call with the bytes bs does to sound memory, and the bytes rs that it answers.
 pub record Called (cs ps us bs cs′ ps′ us′ rs : List ℕ) : Type 0 where
@@ -54,15 +56,16 @@ good-limits n c u = leb n 1000000 && (leb c 65536 && leb u 1000000)
 abbrev pub enough : ℕ → ℕ → ℕ → List ℕ → List ℕ → List ℕ → Bool
 enough n c u cs ps us = leb (cells-words n) (length cs) && (leb (pieces-words c) (length ps) && leb (undo-words u) (length us))
 
--- where refusal 3 points: at 1 for limits out of range, else at 0 for too little memory; one more than that, and 0 if a desk can be opened
-abbrev pub unopened : ℕ → ℕ → ℕ → List ℕ → List ℕ → List ℕ → ℕ
-unopened n c u cs ps us = pick (good-limits n c u) (pick (enough n c u cs ps us) 0 1) 2
-
--- Memory that was opened: every word is known from the limits alone, and it stands for the empty desk.
+-- Memory that was opened: every word that was asked for is known from the limits alone, and it stands for the empty desk.
 pub record Opened (n c u : ℕ) (cs ps us cs′ ps′ us′ : List ℕ) : Type 0 where
-  pub cells : (k : ℕ) → k < cells-words n → getD cs′ k 0 ≡ 0
-  pub pieces : (k : ℕ) → k < pieces-words c → getD ps′ k 0 ≡ opened-word n c u k
-  pub undo : (k : ℕ) → k < undo-words u → getD us′ k 0 ≡ 0
-  pub beyond : Beyond cs ps us cs′ ps′ us′ (limits-of ps′)
+  pub cells : cs′ ≡ opened-cells n ++ drop (cells-words n) cs
+  pub pieces : ps′ ≡ opened-pieces n c u ++ drop (pieces-words c) ps
+  pub undo : us′ ≡ opened-undo u ++ drop (undo-words u) us
   pub stands : Stands cs′ ps′ us′ new-desk
   pub fit : Fit cs′ ps′ us′
+
+-- What open does: it refuses by 3, at 1 for limits out of range and else at 0 for too little memory, and changes no word; or it opens.
+abbrev pub Opening : Result (Unit {0}) Refusal → (n c u : ℕ) (cs ps us cs′ ps′ us′ : List ℕ) → Type 0
+Opening (Ok _) n c u cs ps us cs′ ps′ us′ = (good-limits n c u && enough n c u cs ps us ≡ true) × Opened n c u cs ps us cs′ ps′ us′
+Opening (Err r) n c u cs ps us cs′ ps′ us′ =
+    (good-limits n c u && enough n c u cs ps us ≡ false) × (r ≡ record { number = 3; place = pick (good-limits n c u) 0 1 }) × (cs′ ≡ cs) × (ps′ ≡ ps) × (us′ ≡ us)

@@ -3,12 +3,12 @@
 -- each, for as many as the limit allows; after them the tables of the store. undo: nothing in this stage.
 -- Definitions only: nothing is assumed.
 use mathlib.Core.Path.{_≡_}
-use mathlib.Core.Bool.{Bool, _&&_}
-use mathlib.Core.List.{List, []}
-use Prim.Native.Nat.{ℕ, _+_, _-_, _*_, _/_, _≤_, _<_}
-use lib.Dec.{ltb, leb, eqb}
-use lib.ListN.{length, getD, drop}
-use Rattle.model.specs.Paper.{pick, Paper}
+use mathlib.Core.Bool.{Bool}
+use mathlib.Core.List.{List, [], _∷_, _++_}
+use Prim.Native.Nat.{ℕ, _+_, _-_, _*_, _/_, _≤_}
+use lib.ListN.{length, getD, drop, replicate}
+use Rattle.std.specs.Iters.{counting}
+use Rattle.model.specs.Paper.{Paper}
 use Rattle.model.specs.Calls.{Desk, Limits}
 use Rattle.model.specs.Promise.{thin}
 use Rattle.changes.specs.Row.{changes-of}
@@ -61,7 +61,12 @@ pub record Stands (cs ps us : List ℕ) (d : Desk) : Type 0 where
   pub sound : Sound cs ps us
   pub paper : d .now ≡ paper-of cs ps
 
--- Word k of the pieces after opening: the limits, the slots in order, and 0 elsewhere.
-abbrev pub opened-word : ℕ → ℕ → ℕ → ℕ → ℕ
-opened-word n c u k =
-    pick (eqb k 0) n (pick (eqb k 1) c (pick (eqb k 2) u (pick (leb (16 + 2 * c) k && ltb k (16 + 2 * c + slots-for n)) (k - (16 + 2 * c)) 0)))
+-- What opening leaves: in the cells 0 throughout; in the pieces the limits, no change, and the tables of an empty store.
+abbrev pub opened-cells : ℕ → List ℕ
+opened-cells n = replicate (cells-words n) 0
+
+abbrev pub opened-pieces : ℕ → ℕ → ℕ → List ℕ
+opened-pieces n c u = (n ∷ (c ∷ (u ∷ replicate (13 + 2 * c) 0))) ++ (counting 0 (slots-for n) ++ replicate (6144 - slots-for n) 0)
+
+abbrev pub opened-undo : ℕ → List ℕ
+opened-undo u = replicate (undo-words u) 0

@@ -1,16 +1,104 @@
-// The desk on lent memory.
+// The desk on lent memory: three slices of words, which the caller lends to every call. `open` makes an empty desk in them, `call` does a call that
+// comes as bytes and writes the answer as bytes. What memory holds, and what each promises of it, is in specs/.
+ghost use Prim.Native.Nat.{ℕ, _*_, _+_, _<_, _≤_};
+ghost use Rattle.session.specs.Contract.{Opening};
 ghost use Rattle.session.specs.Keeping.{Any-chain, Main-promise};
-ghost use Rattle.codec.specs.Laws.{Reads-back, One-answer};
+ghost use Rattle.session.specs.Memory.{cells-words, pieces-words, undo-words};
+ghost use lib.ListN.{drop, length, replicate};
+ghost use mathlib.Core.List.{_++_, _∷_};
+ghost use mathlib.Core.Path.{_≡_};
 
-// The promise of the whole desk over any chain of calls.
+const HEAD: usize = 16;
+
+// How many cells and changes a paper may have, and how much can be undone.
+#[derive(Clone, Copy)]
+pub struct Limits {
+    pub cells: u32,
+    pub changes: u32,
+    pub undos: u32,
+}
+
+// How many words each slice has to have.
+#[derive(Clone, Copy)]
+pub struct Sizes {
+    pub cells: usize,
+    pub pieces: usize,
+    pub undo: usize,
+}
+
+// The number of a refusal and the place that it points to.
+#[derive(Clone, Copy)]
+pub struct Refusal {
+    pub number: u32,
+    pub place: u32,
+}
+
+// The sizes that the limits ask for, whether or not a desk can be opened with them.
+pub fn words_for(limits: Limits) -> Sizes
+    ensures cells { λ r. ⌜ r .cells ≡ cells-words (limits .cells) ⌝ }
+    ensures pieces { λ r. ⌜ r .pieces ≡ pieces-words (limits .changes) ⌝ }
+    ensures undo { λ r. ⌜ r .undo ≡ undo-words (limits .undos) ⌝ }
+{
+    Sizes {
+        cells: 4096 * (limits.cells as usize / 576 + 4),
+        pieces: 6160 + 2 * limits.changes as usize,
+        undo: 0,
+    }
+}
+
+// An empty desk in lent memory, or refusal 3.
+pub fn open(
+    cells: &mut [u32],
+    pieces: &mut [u32],
+    undo: &mut [u32],
+    limits: Limits,
+) -> Result<(), Refusal>
+    ensures { λ r. ⌜ Opening r (limits .cells) (limits .changes) (limits .undos) (now (cells .entry)) (now (pieces .entry)) (now (undo .entry)) (now (cells .exit)) (now (pieces .exit)) (now (undo .exit)) ⌝ }
+{
+    if limits.cells > 1_000_000 || limits.changes > 65_536 || limits.undos > 1_000_000 {
+        return Err(Refusal {
+            number: 3,
+            place: 1,
+        });
+    }
+    let asked = words_for(limits);
+    if cells.len() < asked.cells || pieces.len() < asked.pieces || undo.len() < asked.undo {
+        return Err(Refusal {
+            number: 3,
+            place: 0,
+        });
+    }
+    let tables = HEAD + 2 * limits.changes as usize;
+    begin(pieces, limits);
+    pieces::clear(
+        cells,
+        &mut pieces[tables..],
+        pieces::slots_for(limits.cells as usize),
+    );
+    Ok(())
+}
+
+// The limits, and no change.
+fn begin(pieces: &mut [u32], limits: Limits)
+    requires { ⌜ 16 + 2 * limits .changes ≤ length (now pieces) ⌝ }
+    ensures { λ _. ⌜ now (pieces .exit) ≡ (limits .cells ∷ (limits .changes ∷ (limits .undos ∷ replicate (13 + 2 * limits .changes) 0))) ++ drop (16 + 2 * limits .changes) (now (pieces .entry)) ⌝ }
+{
+    pieces::zero(pieces, HEAD + 2 * limits.changes as usize);
+    pieces[0] = limits.cells;
+    pieces[1] = limits.changes;
+    pieces[2] = limits.undos;
+}
+
+// In any chain of calls, with any bytes, the answers are those of the desk that memory stood for.
 pub fn any_chain() -> u8
     ensures { λ _. ⌜ Any-chain ⌝ }
 {
     0
 }
 
+// Whoever keeps to the contracts of open and call answers every list of calls as the model does, within the memory that is asked for.
 pub fn main_promise() -> u8
-    ensures { λ _. ⌜ (Reads-back → One-answer → Main-promise) ⌝ }
+    ensures { λ _. ⌜ Main-promise ⌝ }
 {
     0
 }
