@@ -31,40 +31,43 @@ mod tests {
 
     #[test]
     fn calls() -> Result<(), Fail> {
-        row(
-            &[0, 7, 0, 0, 0, 1, 2, 0, 0, 3, 0, 0, 0, 2, 0, 0, 0, 104, 105, 9],
-            Call::Put { author: 7, place: 513, style: 3 },
-            b"hi",
-        )?;
-        row(&[0, 7, 0, 0, 0, 1, 2, 0, 0, 3, 0, 0, 0, 0, 0, 0, 0, 9], Call::Put { author: 7, place: 513, style: 3 }, b"")?;
-        row(
-            &[1, 255, 255, 255, 255, 4, 3, 2, 1, 0, 0, 0, 128, 9],
-            Call::Strike { author: 4294967295, place: 16909060, count: 2147483648 },
-            b"",
-        )?;
-        row(&[2, 5, 0, 0, 0, 9], Call::Accept { change: 5 }, b"")?;
-        row(&[3, 5, 0, 0, 0, 9], Call::Reject { change: 5 }, b"")?;
-        row(&[4, 1, 0, 0, 0, 2, 0, 0, 0, 3, 0, 0, 0, 9], Call::Style { place: 1, count: 2, style: 3 }, b"")?;
-        row(&[5, 9], Call::Undo, b"")?;
-        row(&[6, 9], Call::Redo, b"")?;
-        row(
-            &[7, 2, 0, 0, 0, 64, 0, 0, 0, 0, 1, 0, 0, 10, 0, 0, 0, 9],
-            Call::Show { way: 2, width: 64, row: 256, count: 10 },
-            b"",
-        )?;
-        row(&[8, 1, 0, 0, 0, 0, 0, 1, 0, 3, 0, 0, 0, 97, 0, 255, 9], Call::Find { way: 1, from: 65536 }, &[97, 0, 255])?;
-        row(&[9, 1, 0, 0, 0, 9], Call::Count { way: 1 }, b"")?;
-        row(&[10, 0, 0, 0, 1, 9], Call::Change { change: 16777216 }, b"")?;
-        row(&[11, 1, 0, 0, 0, 2, 0, 0, 0, 9], Call::Save { from: 1, count: 2 }, b"")
+        let put = Call::Put { author: 7, place: 513, style: 3 };
+        let strike = Call::Strike { author: 4294967295, place: 16909060, count: 2147483648 };
+        let show = Call::Show { way: 2, width: 64, row: 256, count: 10 };
+        let table: [(&[u8], Call, &[u8]); 13] = [
+            (&[0, 7, 0, 0, 0, 1, 2, 0, 0, 3, 0, 0, 0, 2, 0, 0, 0, 104, 105, 9], put, b"hi"),
+            (&[0, 7, 0, 0, 0, 1, 2, 0, 0, 3, 0, 0, 0, 0, 0, 0, 0, 9], put, b""),
+            (&[1, 255, 255, 255, 255, 4, 3, 2, 1, 0, 0, 0, 128, 9], strike, b""),
+            (&[2, 5, 0, 0, 0, 9], Call::Accept { change: 5 }, b""),
+            (&[3, 5, 0, 0, 0, 9], Call::Reject { change: 5 }, b""),
+            (&[4, 1, 0, 0, 0, 2, 0, 0, 0, 3, 0, 0, 0, 9], Call::Style { place: 1, count: 2, style: 3 }, b""),
+            (&[5, 9], Call::Undo, b""),
+            (&[6, 9], Call::Redo, b""),
+            (&[7, 2, 0, 0, 0, 64, 0, 0, 0, 0, 1, 0, 0, 10, 0, 0, 0, 9], show, b""),
+            (&[8, 1, 0, 0, 0, 0, 0, 1, 0, 3, 0, 0, 0, 97, 0, 255, 9], Call::Find { way: 1, from: 65536 }, &[97, 0, 255]),
+            (&[9, 1, 0, 0, 0, 9], Call::Count { way: 1 }, b""),
+            (&[10, 0, 0, 0, 1, 9], Call::Change { change: 16777216 }, b""),
+            (&[11, 1, 0, 0, 0, 2, 0, 0, 0, 9], Call::Save { from: 1, count: 2 }, b""),
+        ];
+        for (bytes, call, letters) in table {
+            row(bytes, call, letters)?;
+        }
+        Ok(())
     }
 
     #[test]
     fn no_calls() -> Result<(), Fail> {
-        check_eq(ceases(&[12, 0, 0, 0, 0]), Some(0))?;
-        check_eq(ceases(&[255]), Some(0))?;
-        // more letters than follow
-        check_eq(ceases(&[0, 7, 0, 0, 0, 1, 0, 0, 0, 2, 0, 0, 0, 3, 0, 0, 0, 104, 105]), Some(19))?;
-        check_eq(ceases(&[0, 7, 0, 0, 0, 1, 0, 0, 0, 2, 0, 0, 0, 255, 255, 255, 255, 104]), Some(18))?;
-        check_eq(ceases(&[8, 1, 0, 0, 0, 0, 0, 0, 0, 255, 255, 255, 255]), Some(13))
+        let table: [(&[u8], usize); 5] = [
+            (&[12, 0, 0, 0, 0], 0),
+            (&[255], 0),
+            // more letters than follow
+            (&[0, 7, 0, 0, 0, 1, 0, 0, 0, 2, 0, 0, 0, 3, 0, 0, 0, 104, 105], 19),
+            (&[0, 7, 0, 0, 0, 1, 0, 0, 0, 2, 0, 0, 0, 255, 255, 255, 255, 104], 18),
+            (&[8, 1, 0, 0, 0, 0, 0, 0, 0, 255, 255, 255, 255], 13),
+        ];
+        for (bytes, place) in table {
+            check_eq(ceases(bytes), Some(place))?;
+        }
+        Ok(())
     }
 }
