@@ -13,7 +13,7 @@ ghost use Rattle.codec.specs.Over.{over};
 ghost use Rattle.codec.specs.Laws.{Readable-is, Reads-back, Reads-only, One-answer};
 
 // The numbers of a call. The letters of Put and Find are not in it: they stand beside it, where they came.
-#[derive(Clone, Copy, Debug, PartialEq, Eq)]
+#[derive(Clone, Copy)]
 pub enum Call {
     Put {
         author: u32,
