@@ -1,2 +1,3 @@
 mod Keeping
 mod Opening
+mod Ranges

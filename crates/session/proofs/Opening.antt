@@ -90,15 +90,11 @@ module _ (n c u : ℕ) (ps begun-words after-tables : List ℕ)
       let long : length after-tables ≡ length ps - (16 + 2 * c) = cleared-length small-n long-ps in
       record {
         sound = record {
-          few-cells = omega arith;
-          few-changes = omega arith;
-          few-undos = omega arith;
-          cells-long = rw s (omega arith);
-          pieces-long = omega arith;
-          undo-long = omega arith;
-          store = st;
-          cells-fit = rw none (omega arith);
-          changes-fit = omega arith;
+          held = record {
+            few-cells = omega arith; few-changes = omega arith; few-undos = omega arith; cells-long = rw s (omega arith); pieces-long = omega arith;
+            store = st; cells-fit = rw none (omega arith); changes-fit = omega arith
+          };
+          undo-long = omega arith
         };
         paper = rw (none, g3) refl;
       }

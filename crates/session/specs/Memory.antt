@@ -44,17 +44,21 @@ tables ps = drop (16 + 2 * getD ps 1 0) ps
 abbrev pub paper-of : List ℕ → List ℕ → Paper
 paper-of cs ps = record { cells = cells-of cs (tables ps) (slots-for (getD ps 0 0)); changes = changes-of (drop 16 ps) (getD ps 3 0) }
 
--- what always holds of memory once it was opened
-pub record Sound (cs ps us : List ℕ) : Type 0 where
+-- what always holds of the paper's part of memory once it was opened
+pub record Held (cs ps : List ℕ) : Type 0 where
   pub few-cells : getD ps 0 0 ≤ 1000000
   pub few-changes : getD ps 1 0 ≤ 65536
   pub few-undos : getD ps 2 0 ≤ 1000000
   pub cells-long : cells-words (getD ps 0 0) ≤ length cs
   pub pieces-long : pieces-words (getD ps 1 0) ≤ length ps
-  pub undo-long : undo-words (getD ps 2 0) ≤ length us
   pub store : Store cs (tables ps) (slots-for (getD ps 0 0))
   pub cells-fit : length (paper-of cs ps .cells) ≤ getD ps 0 0
   pub changes-fit : getD ps 3 0 ≤ getD ps 1 0
+
+-- what always holds of memory
+pub record Sound (cs ps us : List ℕ) : Type 0 where
+  pub held : Held cs ps
+  pub undo-long : undo-words (getD ps 2 0) ≤ length us
 
 -- Memory stands for a desk. No call of this stage can tell of what could be undone or redone, so that nothing is said of it.
 pub record Stands (cs ps us : List ℕ) (d : Desk) : Type 0 where

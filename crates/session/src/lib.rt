@@ -8,6 +8,8 @@ ghost use lib.ListN.{drop, length, replicate};
 ghost use mathlib.Core.List.{_++_, _∷_};
 ghost use mathlib.Core.Path.{_≡_};
 
+mod range;
+
 const HEAD: usize = 16;
 
 // How many cells and changes a paper may have, and how much can be undone.

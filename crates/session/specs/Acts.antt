@@ -1,0 +1,28 @@
+-- What the functions under `call` promise: they know the paper's part of memory alone. Definitions only: nothing is assumed.
+use mathlib.Core.Path.{_≡_}
+use mathlib.Core.List.{List, []}
+use Prim.Native.Nat.{ℕ, _<_}
+use lib.ListN.{length, drop}
+use Rattle.model.specs.Paper.{Paper}
+use Rattle.model.specs.Calls.{Call, Answer, Desk, turned, after, answer}
+use Rattle.session.specs.Memory.{cells-words, pieces-words, limits-of, paper-of, Held}
+
+-- memory now holds the paper p; the limits and the words beyond are as they were
+pub record Wrote (cs ps cs′ ps′ : List ℕ) (p : Paper) : Type 0 where
+  pub held : Held cs′ ps′
+  pub limits : limits-of ps′ ≡ limits-of ps
+  pub paper : paper-of cs′ ps′ ≡ p
+  pub cells-beyond : drop (cells-words (limits-of ps .cells)) cs′ ≡ drop (cells-words (limits-of ps .cells)) cs
+  pub pieces-beyond : drop (pieces-words (limits-of ps .changes)) ps′ ≡ drop (pieces-words (limits-of ps .changes)) ps
+  pub cells-length : length cs′ ≡ length cs
+  pub pieces-length : length ps′ ≡ length ps
+
+-- a desk with the paper in memory
+abbrev pub desk-of : List ℕ → List ℕ → Desk
+desk-of cs ps = record { now = paper-of cs ps; past = []; future = [] }
+
+-- a call was done or turned away, and the answer is a
+pub record Acted (cs ps : List ℕ) (c : Call) (cs′ ps′ : List ℕ) (a : Answer) : Type 0 where
+  pub wrote : Wrote cs ps cs′ ps′ (after (limits-of ps) (desk-of cs ps) c .now)
+  pub says : a ≡ answer (limits-of ps) (desk-of cs ps) c
+  pub kept : 0 < turned (limits-of ps) (desk-of cs ps) c → (cs′ ≡ cs) × (ps′ ≡ ps)
