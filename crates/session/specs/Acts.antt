@@ -1,11 +1,12 @@
 -- What the functions under `call` promise: they know the paper's part of memory alone. Definitions only: nothing is assumed.
 use mathlib.Core.Path.{_≡_}
-use mathlib.Core.List.{List, []}
-use Prim.Native.Nat.{ℕ, _<_}
-use lib.ListN.{length, drop}
+use mathlib.Core.List.{List, [], _∷_, _++_}
+use Prim.Native.Nat.{ℕ, _+_, _<_}
+use lib.ListN.{length, getD, drop}
 use Rattle.model.specs.Paper.{Paper}
 use Rattle.model.specs.Calls.{Call, Answer, Desk, turned, after, answer}
-use Rattle.session.specs.Memory.{cells-words, pieces-words, limits-of, paper-of, Held}
+use Rattle.changes.specs.Row.{changes-of}
+use Rattle.session.specs.Memory.{cells-words, pieces-words, limits-of, tables as tables-of, paper-of, Held}
 
 -- memory now holds the paper p; the limits and the words beyond are as they were
 pub record Wrote (cs ps cs′ ps′ : List ℕ) (p : Paper) : Type 0 where
@@ -26,3 +27,11 @@ pub record Acted (cs ps : List ℕ) (c : Call) (cs′ ps′ : List ℕ) (a : Ans
   pub wrote : Wrote cs ps cs′ ps′ (after (limits-of ps) (desk-of cs ps) c .now)
   pub says : a ≡ answer (limits-of ps) (desk-of cs ps) c
   pub kept : 0 < turned (limits-of ps) (desk-of cs ps) c → (cs′ ≡ cs) × (ps′ ≡ ps)
+
+-- From ps to qs one change was added, of the author a, which is open; the tables and the limits are as they were.
+pub record Noted (ps qs : List ℕ) (a : ℕ) : Type 0 where
+  pub limits : limits-of qs ≡ limits-of ps
+  pub tables : tables-of qs ≡ tables-of ps
+  pub changes : changes-of (drop 16 qs) (getD qs 3 0) ≡ changes-of (drop 16 ps) (getD ps 3 0) ++ (record { author = a; became = 0 } ∷ [])
+  pub number : getD qs 3 0 ≡ getD ps 3 0 + 1
+  pub words : length qs ≡ length ps

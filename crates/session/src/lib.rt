@@ -1,10 +1,11 @@
 // The desk on lent memory: three slices of words, which the caller lends to every call. `open` makes an empty desk in them, `call` does a call that
 // comes as bytes and writes the answer as bytes. What memory holds, and what each promises of it, is in specs/.
 ghost use Prim.Native.Nat.{ℕ, _*_, _+_, _<_, _≤_};
+ghost use Rattle.session.specs.Acts.{Noted};
 ghost use Rattle.session.specs.Contract.{Opening};
 ghost use Rattle.session.specs.Keeping.{Any-chain, Main-promise};
 ghost use Rattle.session.specs.Memory.{cells-words, pieces-words, undo-words};
-ghost use lib.ListN.{drop, length, replicate};
+ghost use lib.ListN.{drop, getD, length, replicate};
 ghost use mathlib.Core.List.{_++_, _∷_};
 ghost use mathlib.Core.Path.{_≡_};
 
@@ -89,6 +90,18 @@ fn begin(pieces: &mut [u32], limits: Limits)
     pieces[0] = limits.cells;
     pieces[1] = limits.changes;
     pieces[2] = limits.undos;
+}
+
+// One change more, which is open.
+fn add_change(pieces: &mut [u32], author: u32)
+    requires room { ⌜ getD (now pieces) 3 0 < getD (now pieces) 1 0 ⌝ }
+    requires few { ⌜ getD (now pieces) 1 0 ≤ 65536 ⌝ }
+    requires long { ⌜ 16 + 2 * getD (now pieces) 1 0 ≤ length (now pieces) ⌝ }
+    ensures { λ _. ⌜ Noted (now (pieces .entry)) (now (pieces .exit)) author ⌝ }
+{
+    let number = pieces[3];
+    changes::add(&mut pieces[HEAD..], number as usize, author);
+    pieces[3] = number + 1;
 }
 
 // In any chain of calls, with any bytes, the answers are those of the desk that memory stood for.
