@@ -1,3 +1,4 @@
+mod Acting
 mod Heads
 mod Keeping
 mod Opening
