@@ -39,13 +39,13 @@ refuses cs ps c n held t =
     let l : Limits = limits-of ps in
     let d : Desk = desk-of cs ps in
     let same : after l d c ≡ d =
-        ap (λ (m : ℕ). pick (eqb m 0) (changed l d c) d) t ∙ ap (λ (b : Bool). pick b (changed l d c) d) (apart n) in
+    ap (λ (m : ℕ). pick (eqb m 0) (changed l d c) d) t ∙ ap (λ (b : Bool). pick b (changed l d c) d) (apart n) in
     let says : answer l d c ≡ refused (suc n) (place c (suc n)) =
-        ap (λ (m : ℕ). pick (eqb m 0) (told d c) (refused m (place c m))) t ∙ ap (λ (b : Bool). pick b (told d c) (refused (suc n) (place c (suc n)))) (apart n) in
+    ap (λ (m : ℕ). pick (eqb m 0) (told d c) (refused m (place c m))) t ∙ ap (λ (b : Bool). pick b (told d c) (refused (suc n) (place c (suc n)))) (apart n) in
     record {
       wrote = subst (λ (e : Desk). Wrote cs ps cs ps (e .now)) (sym same) (unwritten cs ps held);
       says = sym says;
-      kept = λ h. (refl, refl)
+      kept = λ h. (refl, refl);
     }
 
 -- the call was done: kept has nothing to say
@@ -62,7 +62,7 @@ wrote-it cs ps cs′ ps′ c t w done =
     record {
       wrote = subst (λ (p : Paper). Wrote cs ps cs′ ps′ p) (sym paper) done;
       says = sym says;
-      kept = never (turned l d c) ((cs′ ≡ cs) × (ps′ ≡ ps)) t
+      kept = never (turned l d c) ((cs′ ≡ cs) × (ps′ ≡ ps)) t;
     }
 
 pub looked : (cs ps : List ℕ) (c : Call) → Held cs ps → turned (limits-of ps) (desk-of cs ps) c ≡ 0 → writes c ≡ false →
@@ -75,5 +75,5 @@ looked cs ps c held t w m =
     record {
       wrote = subst (λ (p : Paper). Wrote cs ps cs ps p) (sym paper) (unwritten cs ps held);
       says = sym says;
-      kept = λ h. (refl, refl)
+      kept = λ h. (refl, refl);
     }

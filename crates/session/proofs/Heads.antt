@@ -40,23 +40,23 @@ noted ps w a less long is row =
     let start : 16 ≤ length ps = omega arith in
     let m : mid ≡ take 16 ps ++ w = lent 16 ps w start in
     let same : (i : ℕ) → i < 3 → getD q i 0 ≡ getD ps i 0 =
-        λ i h. let ne : i ≢ 3 = omega arith in
-            getD-set-other mid 3 i (n + 1) 0 ne ∙ (ap (λ (xs : List ℕ). getD xs i 0) m ∙ lent-before 16 ps w i start (omega arith)) in
+    λ i h. let ne : i ≢ 3 = omega arith in
+    getD-set-other mid 3 i (n + 1) 0 ne ∙ (ap (λ (xs : List ℕ). getD xs i 0) m ∙ lent-before 16 ps w i start (omega arith)) in
     let g0 : getD q 0 0 ≡ getD ps 0 0 = same 0 (omega arith) in
     let g1 : getD q 1 0 ≡ c = same 1 (omega arith) in
     let g2 : getD q 2 0 ≡ getD ps 2 0 = same 2 (omega arith) in
     let lw : length w ≡ length ps - 16 =
-        ap length is ∙ (length-set (set (drop 16 ps) (2 * n) a) (2 * n + 1) 0 ∙ (length-set (drop 16 ps) (2 * n) a ∙ length-drop 16 ps)) in
+    ap length is ∙ (length-set (set (drop 16 ps) (2 * n) a) (2 * n + 1) 0 ∙ (length-set (drop 16 ps) (2 * n) a ∙ length-drop 16 ps)) in
     let lt : length (take 16 ps) ≡ 16 = length-take-le 16 ps start in
     let lm : length mid ≡ length ps = ap length m ∙ (length-append (take 16 ps) w ∙ omega arith) in
     let g3 : getD q 3 0 ≡ n + 1 = getD-set-same mid 3 (n + 1) 0 (omega arith) in
     let d : drop 16 q ≡ w = drop-set-lt 16 mid 3 (n + 1) (omega arith) ∙ (ap (drop 16) m ∙ lent-after 16 ps w start) in
     let t1 : drop (16 + 2 * c) q ≡ drop (2 * c) (drop 16 q) = sym (drop-drop (2 * c) 16 q) in
     let t2 : drop (2 * c) w ≡ drop (2 * c) (drop 16 ps) =
-        ap (drop (2 * c)) is ∙ (drop-set-lt (2 * c) (set (drop 16 ps) (2 * n) a) (2 * n + 1) 0 (omega arith) ∙ drop-set-lt (2 * c) (drop 16 ps) (2 * n) a (omega arith)) in
+    ap (drop (2 * c)) is ∙ (drop-set-lt (2 * c) (set (drop 16 ps) (2 * n) a) (2 * n + 1) 0 (omega arith) ∙ drop-set-lt (2 * c) (drop 16 ps) (2 * n) a (omega arith)) in
     let t3 : drop (2 * c) (drop 16 ps) ≡ drop (16 + 2 * c) ps = drop-drop (2 * c) 16 ps in
     let t : tables q ≡ tables ps = ap (λ (k : ℕ). drop (16 + 2 * k) q) g1 ∙ (t1 ∙ (ap (drop (2 * c)) d ∙ (t2 ∙ t3))) in
     let limits : limits-of q ≡ limits-of ps = cc in
     let rows : changes-of (drop 16 q) (getD q 3 0) ≡ changes-of (drop 16 ps) n ++ (record { author = a; became = 0 } ∷ []) =
-        ap (λ (k : ℕ). changes-of (drop 16 q) k) g3 ∙ (ap (λ (xs : List ℕ). changes-of xs (n + 1)) d ∙ row) in
+    ap (λ (k : ℕ). changes-of (drop 16 q) k) g3 ∙ (ap (λ (xs : List ℕ). changes-of xs (n + 1)) d ∙ row) in
     record { limits = limits; tables = t; changes = rows; number = g3; words = length-set mid 3 (n + 1) ∙ lm }

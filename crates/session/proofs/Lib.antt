@@ -3,3 +3,4 @@ mod Heads
 mod Keeping
 mod Opening
 mod Ranges
+mod Writing

@@ -91,10 +91,16 @@ module _ (n c u : ℕ) (ps begun-words after-tables : List ℕ)
       record {
         sound = record {
           held = record {
-            few-cells = omega arith; few-changes = omega arith; few-undos = omega arith; cells-long = rw s (omega arith); pieces-long = omega arith;
-            store = st; cells-fit = rw none (omega arith); changes-fit = omega arith
+            few-cells = omega arith;
+            few-changes = omega arith;
+            few-undos = omega arith;
+            cells-long = rw s (omega arith);
+            pieces-long = omega arith;
+            store = st;
+            cells-fit = rw none (omega arith);
+            changes-fit = omega arith;
           };
-          undo-long = omega arith
+          undo-long = omega arith;
         };
         paper = rw (none, g3) refl;
       }

@@ -3,7 +3,7 @@ use mathlib.Core.Path.{_≡_}
 use mathlib.Core.List.{List, [], _∷_, _++_}
 use Prim.Native.Nat.{ℕ, _+_, _<_}
 use lib.ListN.{length, getD, drop}
-use Rattle.model.specs.Paper.{Paper}
+use Rattle.model.specs.Paper.{Cell, Paper}
 use Rattle.model.specs.Calls.{Call, Answer, Desk, turned, after, answer}
 use Rattle.changes.specs.Row.{changes-of}
 use Rattle.session.specs.Memory.{cells-words, pieces-words, limits-of, tables as tables-of, paper-of, Held}
@@ -35,3 +35,7 @@ pub record Noted (ps qs : List ℕ) (a : ℕ) : Type 0 where
   pub changes : changes-of (drop 16 qs) (getD qs 3 0) ≡ changes-of (drop 16 ps) (getD ps 3 0) ++ (record { author = a; became = 0 } ∷ [])
   pub number : getD qs 3 0 ≡ getD ps 3 0 + 1
   pub words : length qs ≡ length ps
+
+-- the paper p with other cells
+abbrev pub with-cells : Paper → List Cell → Paper
+with-cells p xs = record { cells = xs; changes = p .changes }

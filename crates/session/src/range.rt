@@ -4,7 +4,6 @@ ghost use Rattle.session.specs.Range.{can as stage-can, counted as all-counted
 ghost use lib.Dec.{eqb, leb};
 ghost use mathlib.Core.Bool.{_&&_, _||_};
 ghost use mathlib.Core.Path.{_≡_};
-
 use codec::Call;
 
 // Whether this stage can do a call.
@@ -24,14 +23,20 @@ pub fn within(call: Call, letters: &[u8]) -> bool
     ensures { λ r. ⌜ r ≡ in-range call (now (letters .entry)) ⌝ }
 {
     match call {
-        Call::Put { author, style, .. } => ((author < 256) & (style < 256)) & (all_good(letters) & counted(letters.len(), 1024)),
+        Call::Put { author, style, .. } => ((author < 256) & (style < 256))
+            & (all_good(letters) & counted(letters.len(), 1024)),
         Call::Strike { author, count, .. } => (author < 256) & (1 <= count),
         Call::Accept { .. } => true,
         Call::Reject { .. } => true,
         Call::Style { count, style, .. } => (style < 256) & (1 <= count),
         Call::Undo => true,
         Call::Redo => true,
-        Call::Show { way, width, count, .. } => (way < 3) & (counted(width as usize, 256) & counted(count as usize, 64)),
+        Call::Show {
+            way,
+            width,
+            count,
+            ..
+        } => (way < 3) & (counted(width as usize, 256) & counted(count as usize, 64)),
         Call::Find { way, .. } => (way < 3) & (all_good(letters) & counted(letters.len(), 256)),
         Call::Count { way } => way < 3,
         Call::Change { .. } => true,
