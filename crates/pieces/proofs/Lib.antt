@@ -3,3 +3,5 @@ pub mod Texts
 pub mod Counts
 pub mod Cleared
 pub mod Change
+mod Leaves
+mod Cells

@@ -25,6 +25,10 @@ pub record Resized (p q : List ℕ) (k n : ℕ) : Type 0 where
   pub order : (j : ℕ) → j < 2048 → slot q j ≡ slot p j
   pub past : drop 6144 q ≡ drop 6144 p
 
+-- from p to q the order and all lengths stayed
+abbrev pub Recounted : List ℕ → List ℕ → Type 0
+Recounted p q = Resized p q 0 (used p 0)
+
 -- piece k is now xs, and the others are as they were
 pub record Changed (c p d q : List ℕ) (s k : ℕ) (xs : List Cell) : Type 0 where
   pub order : Order q s

@@ -4,10 +4,13 @@
 ghost use mathlib.Core.Path.{_≡_};
 ghost use mathlib.Core.List.{_++_, []};
 ghost use Prim.Native.Nat.{ℕ, _+_, _-_, _*_, _/_, _<_, _≤_};
-ghost use lib.ListN.{length, getD, drop, replicate};
+ghost use lib.ListN.{length, getD, take, drop, replicate};
 ghost use Rattle.model.specs.Values.{cell-of};
 ghost use Rattle.std.specs.Iters.{counting};
-ghost use Rattle.pieces.specs.Store.{used as uses, number, cells-of, before, no-cell, cleared-cells, cleared-words, Located, Order, Table, Store};
+ghost use Rattle.pieces.specs.Store.{used as uses, number, piece, cells-of, before, no-cell, cleared-cells, cleared-words, Frame, Located, Order, Table, Store};
+ghost use Rattle.pieces.specs.Edits.{replaced, Filled, Recounted, Resized};
+ghost use Rattle.model.specs.Paper.{new-cells};
+ghost use Rattle.tree.specs.Tree.{Sums};
 use model::Cell;
 
 const CELLS: usize = 1024;
@@ -117,4 +120,75 @@ fn enumerate(w: &mut [u32], n: usize)
     for i in 0..n {
         w[i] = i as u32;
     }
+}
+
+// Piece `k` gets the length `n`. The counts above it are not right afterwards.
+fn set_length(p: &mut [u32], k: usize, n: usize)
+    requires leaf { ⌜ k < 2048 ⌝ }
+    requires words { ⌜ 6144 ≤ length (now p) ⌝ }
+    requires small { ⌜ n ≤ 1024 ⌝ }
+    ensures { λ _. ⌜ Resized (now (p .entry)) (now (p .exit)) k n ⌝ }
+{
+    p[LEAVES + k] = n as u32;
+}
+
+// Piece `k` gets the length `n`, and the counts above it follow.
+fn resize(p: &mut [u32], k: usize, n: usize)
+    requires leaf { ⌜ k < 2048 ⌝ }
+    requires words { ⌜ 6144 ≤ length (now p) ⌝ }
+    requires small { ⌜ n ≤ 1024 ⌝ }
+    requires sums { ⌜ Sums (drop 2048 (now p)) ⌝ }
+    ensures resized { λ _. ⌜ Resized (now (p .entry)) (now (p .exit)) k n ⌝ }
+    ensures sums { λ _. ⌜ Sums (drop 2048 (now (p .exit))) ⌝ }
+{
+    tree::set(&mut p[TREE..], k, n as u32);
+}
+
+// All counts are made right again.
+fn recount(p: &mut [u32], s: usize)
+    requires { ⌜ Order (now p) s ⌝ }
+    ensures same { λ _. ⌜ Recounted (now (p .entry)) (now (p .exit)) ⌝ }
+    ensures sums { λ _. ⌜ Sums (drop 2048 (now (p .exit))) ⌝ }
+{
+    tree::rebuild(&mut p[TREE..]);
+}
+
+// Makes room for the letters in the slot of piece `k`, from its cell `o` on, and writes them there.
+fn insert_cells(c: &mut [u32], p: &[u32], s: usize, k: usize, o: usize, letters: &[u8], style: u32, change: u32)
+    requires order { ⌜ Order (now p) s ⌝ }
+    requires room { ⌜ 4096 * s ≤ length (now c) ⌝ }
+    requires here { ⌜ k < s ⌝ }
+    requires within { ⌜ o ≤ uses (now p) k ⌝ }
+    requires fits { ⌜ uses (now p) k + length (now letters) ≤ 1024 ⌝ }
+    requires mark { ⌜ change < 4294967295 ⌝ }
+    ensures { λ _. ⌜ Filled (now (c .entry)) (now (c .exit)) (now (p .entry)) k (replaced (piece (now (c .entry)) (now (p .entry)) k) o 0 (new-cells (now (letters .entry)) style change)) ⌝ }
+{
+    let at = number_of(p, s, k, o);
+    slots::copy(c, at, at + letters.len(), used(p, k) - o);
+    slots::fill(c, at, letters, style, change);
+}
+
+// Takes `n` cells out of the slot of piece `k`, from its cell `o` on.
+fn remove_cells(c: &mut [u32], p: &[u32], s: usize, k: usize, o: usize, n: usize)
+    requires order { ⌜ Order (now p) s ⌝ }
+    requires room { ⌜ 4096 * s ≤ length (now c) ⌝ }
+    requires here { ⌜ k < s ⌝ }
+    requires within { ⌜ o + n ≤ uses (now p) k ⌝ }
+    ensures { λ _. ⌜ Filled (now (c .entry)) (now (c .exit)) (now (p .entry)) k (replaced (piece (now (c .entry)) (now (p .entry)) k) o n []) ⌝ }
+{
+    let at = number_of(p, s, k, o);
+    slots::copy(c, at + n, at, used(p, k) - (o + n));
+}
+
+// Copies `n` cells of piece `j`, from its cell `o` on, into the slot of piece `i` behind its cells.
+fn append_cells(c: &mut [u32], p: &[u32], s: usize, i: usize, j: usize, o: usize, n: usize)
+    requires order { ⌜ Order (now p) s ⌝ }
+    requires room { ⌜ 4096 * s ≤ length (now c) ⌝ }
+    requires target { ⌜ i < s ⌝ }
+    requires source { ⌜ j < s ⌝ }
+    requires within { ⌜ o + n ≤ uses (now p) j ⌝ }
+    requires fits { ⌜ uses (now p) i + n ≤ 1024 ⌝ }
+    ensures { λ _. ⌜ Filled (now (c .entry)) (now (c .exit)) (now (p .entry)) i (piece (now (c .entry)) (now (p .entry)) i ++ take n (drop o (piece (now (c .entry)) (now (p .entry)) j))) ⌝ }
+{
+    slots::copy(c, number_of(p, s, j, o), number_of(p, s, i, used(p, i)), n);
 }
