@@ -12,7 +12,7 @@ use Rattle.model.specs.Paper.{Cell, new-cells}
 use Rattle.slots.specs.Cells.{cellAt, cellsAt, Kept}
 use Rattle.slots.proofs.Words.{length-cells, cells-split, take-cells, drop-cells, kept-cells-below, kept-cells-above, kept-drop, kept-wider, kept-twice}
 use Rattle.pieces.specs.Store.{slot, used, piece, strung, cells-of, before, Order, Frame}
-use Rattle.pieces.specs.Edits.{replaced, Filled, Resized, Changed}
+use Rattle.pieces.specs.Edits.{replaced, Filled, Resized, Changed, Shifted}
 use Rattle.pieces.proofs.Strung.{strung-same, strung-none, strung-at, strung-split, take-within, drop-within}
 use Rattle.pieces.proofs.Texts.{length-piece, length-before}
 
@@ -93,6 +93,44 @@ changed c p d q s k xs o l f h m =
         frame = frame-both c p d p d q s (frame-cells c d p s k o l (f .kept)) (frame-words d p q s k (length xs) h);
         here = rw (h .order k (omega arith), h .here) (f .cells);
         others = λ j a ne. rw (h .order j (omega arith), h .others j (omega arith) ne) (other-slot c d p s k j (used p j) o (f .kept) l a ne (o .small j a)) }
+
+pub length-replaced : (xs : List Cell) (o n : ℕ) (ys : List Cell) → o + n ≤ length xs → length (replaced xs o n ys) ≡ length xs + length ys - n
+length-replaced xs o n ys l =
+    let a = length-append (take o xs) (ys ++ drop (o + n) xs) in
+    let b = length-append ys (drop (o + n) xs) in
+    let t = length-take-le o xs (omega arith) in
+    let d = length-drop (o + n) xs in
+    omega arith
+
+-- cells of one piece are replaced, and its length follows
+pub replaced-here : (c p d q : List ℕ) (s k o n t : ℕ) (ys : List Cell) → Order p s → k < s → o + n ≤ used p k → t ≡ used p k + length ys - n → t ≤ 1024
+    → Filled c d p k (replaced (piece c p k) o n ys) → Resized p q k t → Changed c p d q s k (replaced (piece c p k) o n ys)
+replaced-here c p d q s k o n t ys w l m e le f h =
+    let u = length-piece c p k in
+    let len : t ≡ length (replaced (piece c p k) o n ys) = omega (arith, length-replaced (piece c p k) o n ys (omega arith)) in
+    changed c p d q s k (replaced (piece c p k) o n ys) w l f (rw len at h) (rw len at le)
+
+-- cells of piece j go behind piece i, and both lengths follow
+pub shifted : (c p d q e r : List ℕ) (s i j o n t v : ℕ) → Order p s → i < s → j < s → i ≢ j → o + n ≤ used p j → used p i + n ≤ 1024
+    → t ≡ used p i + n → v ≡ used q j - n
+    → Filled c d p i (piece c p i ++ take n (drop o (piece c p j))) → Resized p q i t
+    → Filled d e q j (replaced (piece d q j) o n []) → Resized q r j v → Shifted c p e r s i j o n
+shifted c p d q e r s i j o n t v w a b ne l m et ev f h g k =
+    let most = w .most in
+    let ui = length-piece c p i in
+    let uj = length-piece c p j in
+    let dj = length-drop o (piece c p j) in
+    let len : t ≡ length (piece c p i ++ take n (drop o (piece c p j))) =
+          omega (arith, length-append (piece c p i) (take n (drop o (piece c p j))), length-take-le n (drop o (piece c p j)) (omega arith)) in
+    let one = changed c p d q s i (piece c p i ++ take n (drop o (piece c p j))) w a f (rw len at h) (omega arith) in
+    let j-same : piece d q j ≡ piece c p j = one .others j b (λ x. ne (sym x)) in
+    let u-same = h .others j (omega arith) (λ x. ne (sym x)) in
+    let small = w .small j b in
+    let two = replaced-here d q e r s j o n v [] (one .order) b (omega arith) (omega arith) (omega arith) g k in
+    record { order = two .order; frame = frame-both c p d q e r s (one .frame) (two .frame);
+        target = two .others i a ne ∙ one .here;
+        source = two .here ∙ ap (λ xs. replaced xs o n []) j-same;
+        others = λ x y ni nj. two .others x y nj ∙ one .others x y ni }
 
 -- the text after one piece has changed
 pub changed-text : (c p d q : List ℕ) (s k o n : ℕ) (ys : List Cell) → k < s → o + n ≤ used p k → Changed c p d q s k (replaced (piece c p k) o n ys)

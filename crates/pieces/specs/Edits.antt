@@ -6,7 +6,7 @@ use Prim.Native.Nat.{ℕ, _+_, _-_, _*_, _≤_, _<_}
 use lib.ListN.{length, getD, take, drop}
 use Rattle.model.specs.Paper.{Cell, new-cells}
 use Rattle.slots.specs.Cells.{cellsAt, Kept}
-use Rattle.pieces.specs.Store.{slot, used, piece, Order, Frame}
+use Rattle.pieces.specs.Store.{slot, used, piece, cells-of, Order, Frame}
 
 -- xs with the cells o to o + n - 1 replaced by ys
 abbrev pub replaced : List Cell → ℕ → ℕ → List Cell → List Cell
@@ -35,3 +35,17 @@ pub record Changed (c p d q : List ℕ) (s k : ℕ) (xs : List Cell) : Type 0 wh
   pub frame : Frame c p d q s
   pub here : piece d q k ≡ xs
   pub others : (j : ℕ) → j < s → j ≢ k → piece d q j ≡ piece c p j
+
+-- n cells of piece j, from its cell o on, went behind the cells of piece i
+pub record Shifted (c p d q : List ℕ) (s i j o n : ℕ) : Type 0 where
+  pub order : Order q s
+  pub frame : Frame c p d q s
+  pub target : piece d q i ≡ piece c p i ++ take n (drop o (piece c p j))
+  pub source : piece d q j ≡ replaced (piece c p j) o n []
+  pub others : (k : ℕ) → k < s → k ≢ i → k ≢ j → piece d q k ≡ piece c p k
+
+-- the text is the same, in a store that may be arranged another way
+pub record Same-text (c p d q : List ℕ) (s : ℕ) : Type 0 where
+  pub order : Order q s
+  pub frame : Frame c p d q s
+  pub text : cells-of d q s ≡ cells-of c p s

@@ -3,12 +3,13 @@
 // cells. Words of `c` past the slots and words of `p` past 6144 are never touched.
 ghost use mathlib.Core.Path.{_≡_};
 ghost use mathlib.Core.List.{_++_, []};
+ghost use mathlib.Core.Logic.{_≢_};
 ghost use Prim.Native.Nat.{ℕ, _+_, _-_, _*_, _/_, _<_, _≤_};
 ghost use lib.ListN.{length, getD, take, drop, replicate};
 ghost use Rattle.model.specs.Values.{cell-of};
 ghost use Rattle.std.specs.Iters.{counting};
 ghost use Rattle.pieces.specs.Store.{used as uses, number, piece, cells-of, before, no-cell, cleared-cells, cleared-words, Frame, Located, Order, Table, Store};
-ghost use Rattle.pieces.specs.Edits.{replaced, Filled, Recounted, Resized};
+ghost use Rattle.pieces.specs.Edits.{replaced, Changed, Filled, Recounted, Resized, Shifted};
 ghost use Rattle.model.specs.Paper.{new-cells};
 ghost use Rattle.tree.specs.Tree.{Sums};
 use model::Cell;
@@ -191,4 +192,51 @@ fn append_cells(c: &mut [u32], p: &[u32], s: usize, i: usize, j: usize, o: usize
     ensures { λ _. ⌜ Filled (now (c .entry)) (now (c .exit)) (now (p .entry)) i (piece (now (c .entry)) (now (p .entry)) i ++ take n (drop o (piece (now (c .entry)) (now (p .entry)) j))) ⌝ }
 {
     slots::copy(c, number_of(p, s, j, o), number_of(p, s, i, used(p, i)), n);
+}
+
+// Puts the letters into piece `k` before its cell `o`. They fit its slot.
+fn insert_here(c: &mut [u32], p: &mut [u32], s: usize, k: usize, o: usize, letters: &[u8], style: u32, change: u32)
+    requires store { ⌜ Store (now c) (now p) s ⌝ }
+    requires here { ⌜ k < s ⌝ }
+    requires within { ⌜ o ≤ uses (now p) k ⌝ }
+    requires fits { ⌜ uses (now p) k + length (now letters) ≤ 1024 ⌝ }
+    requires mark { ⌜ change < 4294967295 ⌝ }
+    ensures changed { λ _. ⌜ Changed (now (c .entry)) (now (p .entry)) (now (c .exit)) (now (p .exit)) s k (replaced (piece (now (c .entry)) (now (p .entry)) k) o 0 (new-cells (now (letters .entry)) style change)) ⌝ }
+    ensures sums { λ _. ⌜ Sums (drop 2048 (now (p .exit))) ⌝ }
+{
+    insert_cells(c, p, s, k, o, letters, style, change);
+    let n = used(p, k) + letters.len();
+    resize(p, k, n);
+}
+
+// Takes `n` cells out of piece `k`, from its cell `o` on.
+fn remove_here(c: &mut [u32], p: &mut [u32], s: usize, k: usize, o: usize, n: usize)
+    requires store { ⌜ Store (now c) (now p) s ⌝ }
+    requires here { ⌜ k < s ⌝ }
+    requires within { ⌜ o + n ≤ uses (now p) k ⌝ }
+    ensures changed { λ _. ⌜ Changed (now (c .entry)) (now (p .entry)) (now (c .exit)) (now (p .exit)) s k (replaced (piece (now (c .entry)) (now (p .entry)) k) o n []) ⌝ }
+    ensures sums { λ _. ⌜ Sums (drop 2048 (now (p .exit))) ⌝ }
+{
+    remove_cells(c, p, s, k, o, n);
+    let left = used(p, k) - n;
+    resize(p, k, left);
+}
+
+// Takes `n` cells out of piece `j`, from its cell `o` on, and puts them behind the cells of piece `i`. The counts are not right afterwards.
+fn shift(c: &mut [u32], p: &mut [u32], s: usize, i: usize, j: usize, o: usize, n: usize)
+    requires order { ⌜ Order (now p) s ⌝ }
+    requires room { ⌜ 4096 * s ≤ length (now c) ⌝ }
+    requires target { ⌜ i < s ⌝ }
+    requires source { ⌜ j < s ⌝ }
+    requires two { ⌜ i ≢ j ⌝ }
+    requires within { ⌜ o + n ≤ uses (now p) j ⌝ }
+    requires fits { ⌜ uses (now p) i + n ≤ 1024 ⌝ }
+    ensures { λ _. ⌜ Shifted (now (c .entry)) (now (p .entry)) (now (c .exit)) (now (p .exit)) s i j o n ⌝ }
+{
+    append_cells(c, p, s, i, j, o, n);
+    let more = used(p, i) + n;
+    set_length(p, i, more);
+    remove_cells(c, p, s, j, o, n);
+    let left = used(p, j) - n;
+    set_length(p, j, left);
 }
