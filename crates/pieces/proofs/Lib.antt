@@ -5,3 +5,4 @@ pub mod Cleared
 pub mod Change
 mod Leaves
 mod Cells
+mod Cuts

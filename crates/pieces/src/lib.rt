@@ -9,7 +9,7 @@ ghost use lib.ListN.{length, getD, take, drop, replicate};
 ghost use Rattle.model.specs.Values.{cell-of};
 ghost use Rattle.std.specs.Iters.{counting};
 ghost use Rattle.pieces.specs.Store.{used as uses, number, piece, cells-of, before, no-cell, cleared-cells, cleared-words, Frame, Located, Order, Table, Store};
-ghost use Rattle.pieces.specs.Edits.{replaced, Changed, Filled, Recounted, Resized, Shifted};
+ghost use Rattle.pieces.specs.Edits.{replaced, Changed, Cut, Filled, Recounted, Resized, Rotated, Shifted};
 ghost use Rattle.model.specs.Paper.{new-cells};
 ghost use Rattle.tree.specs.Tree.{Sums};
 use model::Cell;
@@ -239,4 +239,31 @@ fn shift(c: &mut [u32], p: &mut [u32], s: usize, i: usize, j: usize, o: usize, n
     remove_cells(c, p, s, j, o, n);
     let left = used(p, j) - n;
     set_length(p, j, left);
+}
+
+// The word at `to` moves down to `from`, and those between move up by one.
+fn rotate(p: &mut [u32], from: usize, to: usize)
+    requires order { ⌜ from ≤ to ⌝ }
+    requires within { ⌜ to < length (now p) ⌝ }
+    ensures { λ _. ⌜ Rotated (now (p .entry)) (now (p .exit)) from to ⌝ }
+{
+    let last = p[to];
+    p.copy_within(from..to, from + 1);
+    p[from] = last;
+}
+
+// Cuts piece `k` at its cell `o`: the last piece, which is empty, moves behind it and takes what follows.
+fn split(c: &mut [u32], p: &mut [u32], s: usize, k: usize, o: usize)
+    requires store { ⌜ Store (now c) (now p) s ⌝ }
+    requires here { ⌜ k + 1 < s ⌝ }
+    requires within { ⌜ o ≤ uses (now p) k ⌝ }
+    requires spare { ⌜ uses (now p) (s - 1) ≡ 0 ⌝ }
+    ensures cut { λ _. ⌜ Cut (now (c .entry)) (now (p .entry)) (now (c .exit)) (now (p .exit)) s k o ⌝ }
+    ensures sums { λ _. ⌜ Sums (drop 2048 (now (p .exit))) ⌝ }
+{
+    rotate(p, k + 1, s - 1);
+    rotate(p, LEAVES + k + 1, LEAVES + s - 1);
+    let n = used(p, k) - o;
+    shift(c, p, s, k + 1, k, o, n);
+    recount(p, s);
 }
