@@ -6,3 +6,4 @@ pub mod Change
 mod Leaves
 mod Cells
 mod Cuts
+mod Packs

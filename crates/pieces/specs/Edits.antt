@@ -64,3 +64,8 @@ pub record Cut (c p d q : List ℕ) (s k o : ℕ) : Type 0 where
   pub place : before q k ≡ before p k
   pub here : used q k ≡ o
   pub next : used q (k + 1) ≡ used p k - o
+
+-- the pieces before i are well filled, and those between i and j are empty
+pub record Packed (p : List ℕ) (i j : ℕ) : Type 0 where
+  pub full : (k : ℕ) → k < i → 768 ≤ used p k
+  pub empty : (k : ℕ) → i < k → k < j → used p k ≡ 0

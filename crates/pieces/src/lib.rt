@@ -9,12 +9,13 @@ ghost use lib.ListN.{length, getD, take, drop, replicate};
 ghost use Rattle.model.specs.Values.{cell-of};
 ghost use Rattle.std.specs.Iters.{counting};
 ghost use Rattle.pieces.specs.Store.{used as uses, number, piece, cells-of, before, no-cell, cleared-cells, cleared-words, Frame, Located, Order, Table, Store};
-ghost use Rattle.pieces.specs.Edits.{replaced, Changed, Cut, Filled, Recounted, Resized, Rotated, Shifted};
+ghost use Rattle.pieces.specs.Edits.{replaced, Changed, Cut, Filled, Packed, Recounted, Resized, Rotated, Same-text, Shifted};
 ghost use Rattle.model.specs.Paper.{new-cells};
 ghost use Rattle.tree.specs.Tree.{Sums};
 use model::Cell;
 
 const CELLS: usize = 1024;
+const FULL: usize = 768;
 const TREE: usize = 2048;
 const LEAVES: usize = 4096;
 const WORDS: usize = 6144;
@@ -266,4 +267,58 @@ fn split(c: &mut [u32], p: &mut [u32], s: usize, k: usize, o: usize)
     let n = used(p, k) - o;
     shift(c, p, s, k + 1, k, o, n);
     recount(p, s);
+}
+
+// Packs the cells together: fills each piece up to 768 cells from those behind it. The last piece is empty afterwards, unless there are too many cells.
+fn repack(c: &mut [u32], p: &mut [u32], s: usize)
+    requires { ⌜ Store (now c) (now p) s ⌝ }
+    ensures same { λ _. ⌜ Same-text (now (c .entry)) (now (p .entry)) (now (c .exit)) (now (p .exit)) s ⌝ }
+    ensures sums { λ _. ⌜ Sums (drop 2048 (now (p .exit))) ⌝ }
+    ensures spare { λ _. ⌜ (before (now (p .entry)) s < 768 * (s - 1) → uses (now (p .exit)) (s - 1) ≡ 0) ⌝ }
+{
+    let mut i = 0;
+    for j in 1..s {
+        i = settle(c, p, s, i, j);
+    }
+    recount(p, s);
+}
+
+// Packs the cells of piece `j` into the pieces from `i` on. Returns the last of them.
+fn settle(c: &mut [u32], p: &mut [u32], s: usize, i: usize, j: usize) -> usize
+    requires order { ⌜ Order (now p) s ⌝ }
+    requires room { ⌜ 4096 * s ≤ length (now c) ⌝ }
+    requires here { ⌜ j < s ⌝ }
+    requires first { ⌜ i ≤ j ⌝ }
+    requires packed { ⌜ Packed (now p) i j ⌝ }
+    ensures same { λ _. ⌜ Same-text (now (c .entry)) (now (p .entry)) (now (c .exit)) (now (p .exit)) s ⌝ }
+    ensures first { λ r. ⌜ r ≤ j ⌝ }
+    ensures packed { λ r. ⌜ Packed (now (p .exit)) r (j + 1) ⌝ }
+{
+    let mut i = i;
+    while i < j && used(p, j) > 0 {
+        i = pour(c, p, s, i, j);
+    }
+    i
+}
+
+// Fills piece `i` up from piece `j`, or goes on to the next piece if it is full. Returns the piece to go on with.
+fn pour(c: &mut [u32], p: &mut [u32], s: usize, i: usize, j: usize) -> usize
+    requires order { ⌜ Order (now p) s ⌝ }
+    requires room { ⌜ 4096 * s ≤ length (now c) ⌝ }
+    requires here { ⌜ j < s ⌝ }
+    requires first { ⌜ i < j ⌝ }
+    requires some { ⌜ 0 < uses (now p) j ⌝ }
+    requires packed { ⌜ Packed (now p) i j ⌝ }
+    ensures same { λ _. ⌜ Same-text (now (c .entry)) (now (p .entry)) (now (c .exit)) (now (p .exit)) s ⌝ }
+    ensures first { λ r. ⌜ r ≤ j ⌝ }
+    ensures packed { λ r. ⌜ Packed (now (p .exit)) r j ⌝ }
+    ensures falls { λ r. ⌜ j - r + uses (now (p .exit)) j < j - i + uses (now (p .entry)) j ⌝ }
+{
+    let has = used(p, i);
+    if has >= FULL {
+        return i + 1;
+    }
+    let n = (FULL - has).min(used(p, j));
+    shift(c, p, s, i, j, 0, n);
+    i
 }
