@@ -9,7 +9,7 @@ use native.Mathlib.Omega.{arith}
 use lib.ListN.{length, getD, take, drop}
 use Rattle.std.proofs.shelf.Lists.{getD-drop}
 use Rattle.std.proofs.shelf.Tests.{cases-lt}
-use Rattle.tree.specs.Tree.{Sums, Found, total}
+use Rattle.tree.specs.Tree.{Sums, Found, Light, total}
 use Rattle.tree.proofs.Total.{total-none, total-more}
 use Rattle.tree.proofs.Node.{root-total}
 use Rattle.pieces.specs.Store.{used, before, Order, Table, Located}
@@ -56,3 +56,8 @@ found-located p s place k o t f =
   where
     below : o < used p k → k < s
     below w = elim (cases-lt k s) [ inl h ↦ h | inr h ↦ absurd (let z = t .order .idle k h (f .within) in omega arith) ]
+
+-- no leaf counts too much
+pub light : (p : List ℕ) (s : ℕ) → Order p s → Light (drop 2048 p)
+light p s o j l =
+    rw leaf-used (elim (cases-lt j s) [ inl h ↦ o .small j h | inr h ↦ let z = o .idle j h l in omega arith ])

@@ -3,3 +3,8 @@ pub mod Texts
 pub mod Counts
 pub mod Cleared
 pub mod Change
+mod Leaves
+mod Cells
+mod Cuts
+mod Packs
+mod Edit

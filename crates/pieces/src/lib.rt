@@ -3,19 +3,21 @@
 // cells. Words of `c` past the slots and words of `p` past 6144 are never touched.
 ghost use mathlib.Core.Path.{_≡_};
 ghost use mathlib.Core.List.{_++_, []};
+ghost use mathlib.Core.Logic.{_≢_};
 ghost use Prim.Native.Nat.{ℕ, _+_, _-_, _*_, _/_, _<_, _≤_};
-ghost use lib.ListN.{length, getD, drop, replicate};
+ghost use lib.ListN.{length, getD, set, take, drop, replicate};
 ghost use Rattle.model.specs.Values.{cell-of};
 ghost use Rattle.std.specs.Iters.{counting};
-ghost use Rattle.pieces.specs.Store.{used as uses, number, cells-of, before, no-cell, cleared-cells, cleared-words, Located, Order, Table, Store};
+ghost use Rattle.pieces.specs.Store.{used as uses, number, piece, cells-of, before, no-cell, cleared-cells, cleared-words, Edited, Gap, Located, Order, Table, Store};
+ghost use Rattle.pieces.specs.Edits.{replaced, Changed, Cut, Filled, Packed, Recounted, Resized, Rotated, Same-text, Shifted};
+ghost use Rattle.model.specs.Paper.{new-cells};
+ghost use Rattle.tree.specs.Tree.{Sums};
 use model::Cell;
 
 const CELLS: usize = 1024;
-
+const FULL: usize = 768;
 const TREE: usize = 2048;
-
 const LEAVES: usize = 4096;
-
 const WORDS: usize = 6144;
 
 // A piece, and a place in it.
@@ -85,6 +87,49 @@ pub fn locate(p: &[u32], s: usize, place: usize) -> Spot
     }
 }
 
+// Writes cell `o` of piece `k`.
+pub fn overwrite(c: &mut [u32], p: &[u32], s: usize, k: usize, o: usize, cell: Cell)
+    requires store { ⌜ Store (now c) (now p) s ⌝ }
+    requires here { ⌜ k < s ⌝ }
+    requires within { ⌜ o < uses (now p) k ⌝ }
+    ensures { λ _. ⌜ Edited (now (c .entry)) (now (p .entry)) (now (c .exit)) (now (p .entry)) s (set (cells-of (now (c .entry)) (now (p .entry)) s) (before (now (p .entry)) k + o) (cell-of cell)) ⌝ }
+{
+    slots::write(c, number_of(p, s, k, o), cell);
+}
+
+// Puts letters into the text at `place`: new cells in one style, put in by one change.
+pub fn put(c: &mut [u32], p: &mut [u32], s: usize, place: usize, letters: &[u8], style: u32, change: u32)
+    requires store { ⌜ Store (now c) (now p) s ⌝ }
+    requires place { ⌜ place ≤ length (cells-of (now c) (now p) s) ⌝ }
+    requires few { ⌜ length (now letters) ≤ 1024 ⌝ }
+    requires fits { ⌜ length (cells-of (now c) (now p) s) + length (now letters) ≤ 768 * (s - 1) ⌝ }
+    requires mark { ⌜ change < 4294967295 ⌝ }
+    ensures { λ _. ⌜ Edited (now (c .entry)) (now (p .entry)) (now (c .exit)) (now (p .exit)) s (take place (cells-of (now (c .entry)) (now (p .entry)) s) ++ (new-cells (now (letters .entry)) style change ++ drop place (cells-of (now (c .entry)) (now (p .entry)) s))) ⌝ }
+{
+    let spot = gap(p, s, place);
+    let has = used(p, spot.piece) + letters.len();
+    let last = used(p, s - 1);
+    if has <= CELLS || last == 0 {
+        insert(c, p, s, spot, letters, style, change);
+        return;
+    }
+    repack(c, p, s);
+    let spot = gap(p, s, place);
+    insert(c, p, s, spot, letters, style, change);
+}
+
+// Takes `n` cells out of the text, from `place` on.
+pub fn remove(c: &mut [u32], p: &mut [u32], s: usize, place: usize, n: usize)
+    requires store { ⌜ Store (now c) (now p) s ⌝ }
+    requires within { ⌜ place + n ≤ length (cells-of (now c) (now p) s) ⌝ }
+    ensures { λ _. ⌜ Edited (now (c .entry)) (now (p .entry)) (now (c .exit)) (now (p .exit)) s (take place (cells-of (now (c .entry)) (now (p .entry)) s) ++ drop (place + n) (cells-of (now (c .entry)) (now (p .entry)) s)) ⌝ }
+{
+    let mut left = n;
+    while left > 0 {
+        left -= remove_some(c, p, s, place, left);
+    }
+}
+
 // Makes an empty text in `s` slots. Every word of the slots, the order and the tree is known afterwards.
 pub fn clear(c: &mut [u32], p: &mut [u32], s: usize)
     requires some { ⌜ 0 < s ⌝ }
@@ -120,4 +165,261 @@ fn enumerate(w: &mut [u32], n: usize)
     for i in 0..n {
         w[i] = i as u32;
     }
+}
+
+// Where a cell that is put in at `place` goes: at the front, or just behind the cell before it.
+fn gap(p: &[u32], s: usize, place: usize) -> Spot
+    requires table { ⌜ Table (now p) s ⌝ }
+    requires place { ⌜ place ≤ before (now p) s ⌝ }
+    ensures { λ r. ⌜ Gap (now (p .entry)) s place (r .piece) (r .offset) ⌝ }
+{
+    if place == 0 {
+        return Spot {
+            piece: 0,
+            offset: 0,
+        };
+    }
+    let spot = locate(p, s, place - 1);
+    Spot {
+        piece: spot.piece,
+        offset: spot.offset + 1,
+    }
+}
+
+// Puts the letters in at a gap. If they do not fit the piece there, it is cut at the gap, which takes the last piece.
+fn insert(c: &mut [u32], p: &mut [u32], s: usize, spot: Spot, letters: &[u8], style: u32, change: u32)
+    requires store { ⌜ Store (now c) (now p) s ⌝ }
+    requires here { ⌜ spot .piece < s ⌝ }
+    requires within { ⌜ spot .offset ≤ uses (now p) (spot .piece) ⌝ }
+    requires few { ⌜ length (now letters) ≤ 1024 ⌝ }
+    requires spare { ⌜ (1024 < uses (now p) (spot .piece) + length (now letters) → uses (now p) (s - 1) ≡ 0) ⌝ }
+    requires mark { ⌜ change < 4294967295 ⌝ }
+    ensures { λ _. ⌜ Edited (now (c .entry)) (now (p .entry)) (now (c .exit)) (now (p .exit)) s (replaced (cells-of (now (c .entry)) (now (p .entry)) s) (before (now (p .entry)) (spot .piece) + spot .offset) 0 (new-cells (now (letters .entry)) style change)) ⌝ }
+{
+    let k = spot.piece;
+    let o = spot.offset;
+    let n = letters.len();
+    if used(p, k) + n <= CELLS {
+        insert_here(c, p, s, k, o, letters, style, change);
+        return;
+    }
+    split(c, p, s, k, o);
+    let first = n.min(CELLS - o);
+    insert_here(c, p, s, k, o, &letters[0..first], style, change);
+    insert_here(c, p, s, k + 1, 0, &letters[first..], style, change);
+}
+
+// Takes out cells from `place` on, as far as one piece has them and at most `n`. Returns how many.
+fn remove_some(c: &mut [u32], p: &mut [u32], s: usize, place: usize, n: usize) -> usize
+    requires store { ⌜ Store (now c) (now p) s ⌝ }
+    requires within { ⌜ place + n ≤ before (now p) s ⌝ }
+    requires some { ⌜ 0 < n ⌝ }
+    ensures edited { λ r. ⌜ Edited (now (c .entry)) (now (p .entry)) (now (c .exit)) (now (p .exit)) s (replaced (cells-of (now (c .entry)) (now (p .entry)) s) place r []) ⌝ }
+    ensures some { λ r. ⌜ 0 < r ⌝ }
+    ensures most { λ r. ⌜ r ≤ n ⌝ }
+{
+    let spot = locate(p, s, place);
+    let has = used(p, spot.piece) - spot.offset;
+    let m = n.min(has);
+    remove_here(c, p, s, spot.piece, spot.offset, m);
+    m
+}
+
+// Piece `k` gets the length `n`. The counts above it are not right afterwards.
+fn set_length(p: &mut [u32], k: usize, n: usize)
+    requires leaf { ⌜ k < 2048 ⌝ }
+    requires words { ⌜ 6144 ≤ length (now p) ⌝ }
+    requires small { ⌜ n ≤ 1024 ⌝ }
+    ensures { λ _. ⌜ Resized (now (p .entry)) (now (p .exit)) k n ⌝ }
+{
+    p[LEAVES + k] = n as u32;
+}
+
+// Piece `k` gets the length `n`, and the counts above it follow.
+fn resize(p: &mut [u32], k: usize, n: usize)
+    requires leaf { ⌜ k < 2048 ⌝ }
+    requires words { ⌜ 6144 ≤ length (now p) ⌝ }
+    requires small { ⌜ n ≤ 1024 ⌝ }
+    requires sums { ⌜ Sums (drop 2048 (now p)) ⌝ }
+    ensures resized { λ _. ⌜ Resized (now (p .entry)) (now (p .exit)) k n ⌝ }
+    ensures sums { λ _. ⌜ Sums (drop 2048 (now (p .exit))) ⌝ }
+{
+    tree::set(&mut p[TREE..], k, n as u32);
+}
+
+// All counts are made right again.
+fn recount(p: &mut [u32], s: usize)
+    requires { ⌜ Order (now p) s ⌝ }
+    ensures same { λ _. ⌜ Recounted (now (p .entry)) (now (p .exit)) ⌝ }
+    ensures sums { λ _. ⌜ Sums (drop 2048 (now (p .exit))) ⌝ }
+{
+    tree::rebuild(&mut p[TREE..]);
+}
+
+// Makes room for the letters in the slot of piece `k`, from its cell `o` on, and writes them there.
+fn insert_cells(c: &mut [u32], p: &[u32], s: usize, k: usize, o: usize, letters: &[u8], style: u32, change: u32)
+    requires order { ⌜ Order (now p) s ⌝ }
+    requires room { ⌜ 4096 * s ≤ length (now c) ⌝ }
+    requires here { ⌜ k < s ⌝ }
+    requires within { ⌜ o ≤ uses (now p) k ⌝ }
+    requires fits { ⌜ uses (now p) k + length (now letters) ≤ 1024 ⌝ }
+    requires mark { ⌜ change < 4294967295 ⌝ }
+    ensures { λ _. ⌜ Filled (now (c .entry)) (now (c .exit)) (now (p .entry)) k (replaced (piece (now (c .entry)) (now (p .entry)) k) o 0 (new-cells (now (letters .entry)) style change)) ⌝ }
+{
+    let at = number_of(p, s, k, o);
+    slots::copy(c, at, at + letters.len(), used(p, k) - o);
+    slots::fill(c, at, letters, style, change);
+}
+
+// Takes `n` cells out of the slot of piece `k`, from its cell `o` on.
+fn remove_cells(c: &mut [u32], p: &[u32], s: usize, k: usize, o: usize, n: usize)
+    requires order { ⌜ Order (now p) s ⌝ }
+    requires room { ⌜ 4096 * s ≤ length (now c) ⌝ }
+    requires here { ⌜ k < s ⌝ }
+    requires within { ⌜ o + n ≤ uses (now p) k ⌝ }
+    ensures { λ _. ⌜ Filled (now (c .entry)) (now (c .exit)) (now (p .entry)) k (replaced (piece (now (c .entry)) (now (p .entry)) k) o n []) ⌝ }
+{
+    let at = number_of(p, s, k, o);
+    slots::copy(c, at + n, at, used(p, k) - (o + n));
+}
+
+// Copies `n` cells of piece `j`, from its cell `o` on, into the slot of piece `i` behind its cells.
+fn append_cells(c: &mut [u32], p: &[u32], s: usize, i: usize, j: usize, o: usize, n: usize)
+    requires order { ⌜ Order (now p) s ⌝ }
+    requires room { ⌜ 4096 * s ≤ length (now c) ⌝ }
+    requires target { ⌜ i < s ⌝ }
+    requires source { ⌜ j < s ⌝ }
+    requires within { ⌜ o + n ≤ uses (now p) j ⌝ }
+    requires fits { ⌜ uses (now p) i + n ≤ 1024 ⌝ }
+    ensures { λ _. ⌜ Filled (now (c .entry)) (now (c .exit)) (now (p .entry)) i (piece (now (c .entry)) (now (p .entry)) i ++ take n (drop o (piece (now (c .entry)) (now (p .entry)) j))) ⌝ }
+{
+    slots::copy(c, number_of(p, s, j, o), number_of(p, s, i, used(p, i)), n);
+}
+
+// Puts the letters into piece `k` before its cell `o`. They fit its slot.
+fn insert_here(c: &mut [u32], p: &mut [u32], s: usize, k: usize, o: usize, letters: &[u8], style: u32, change: u32)
+    requires store { ⌜ Store (now c) (now p) s ⌝ }
+    requires here { ⌜ k < s ⌝ }
+    requires within { ⌜ o ≤ uses (now p) k ⌝ }
+    requires fits { ⌜ uses (now p) k + length (now letters) ≤ 1024 ⌝ }
+    requires mark { ⌜ change < 4294967295 ⌝ }
+    ensures changed { λ _. ⌜ Changed (now (c .entry)) (now (p .entry)) (now (c .exit)) (now (p .exit)) s k (replaced (piece (now (c .entry)) (now (p .entry)) k) o 0 (new-cells (now (letters .entry)) style change)) ⌝ }
+    ensures sums { λ _. ⌜ Sums (drop 2048 (now (p .exit))) ⌝ }
+{
+    insert_cells(c, p, s, k, o, letters, style, change);
+    let n = used(p, k) + letters.len();
+    resize(p, k, n);
+}
+
+// Takes `n` cells out of piece `k`, from its cell `o` on.
+fn remove_here(c: &mut [u32], p: &mut [u32], s: usize, k: usize, o: usize, n: usize)
+    requires store { ⌜ Store (now c) (now p) s ⌝ }
+    requires here { ⌜ k < s ⌝ }
+    requires within { ⌜ o + n ≤ uses (now p) k ⌝ }
+    ensures changed { λ _. ⌜ Changed (now (c .entry)) (now (p .entry)) (now (c .exit)) (now (p .exit)) s k (replaced (piece (now (c .entry)) (now (p .entry)) k) o n []) ⌝ }
+    ensures sums { λ _. ⌜ Sums (drop 2048 (now (p .exit))) ⌝ }
+{
+    remove_cells(c, p, s, k, o, n);
+    let left = used(p, k) - n;
+    resize(p, k, left);
+}
+
+// Takes `n` cells out of piece `j`, from its cell `o` on, and puts them behind the cells of piece `i`. The counts are not right afterwards.
+fn shift(c: &mut [u32], p: &mut [u32], s: usize, i: usize, j: usize, o: usize, n: usize)
+    requires order { ⌜ Order (now p) s ⌝ }
+    requires room { ⌜ 4096 * s ≤ length (now c) ⌝ }
+    requires target { ⌜ i < s ⌝ }
+    requires source { ⌜ j < s ⌝ }
+    requires two { ⌜ i ≢ j ⌝ }
+    requires within { ⌜ o + n ≤ uses (now p) j ⌝ }
+    requires fits { ⌜ uses (now p) i + n ≤ 1024 ⌝ }
+    ensures { λ _. ⌜ Shifted (now (c .entry)) (now (p .entry)) (now (c .exit)) (now (p .exit)) s i j o n ⌝ }
+{
+    append_cells(c, p, s, i, j, o, n);
+    let more = used(p, i) + n;
+    set_length(p, i, more);
+    remove_cells(c, p, s, j, o, n);
+    let left = used(p, j) - n;
+    set_length(p, j, left);
+}
+
+// The word at `to` moves down to `from`, and those between move up by one.
+fn rotate(p: &mut [u32], from: usize, to: usize)
+    requires order { ⌜ from ≤ to ⌝ }
+    requires within { ⌜ to < length (now p) ⌝ }
+    ensures { λ _. ⌜ Rotated (now (p .entry)) (now (p .exit)) from to ⌝ }
+{
+    let last = p[to];
+    p.copy_within(from..to, from + 1);
+    p[from] = last;
+}
+
+// Cuts piece `k` at its cell `o`: the last piece, which is empty, moves behind it and takes what follows.
+fn split(c: &mut [u32], p: &mut [u32], s: usize, k: usize, o: usize)
+    requires store { ⌜ Store (now c) (now p) s ⌝ }
+    requires here { ⌜ k + 1 < s ⌝ }
+    requires within { ⌜ o ≤ uses (now p) k ⌝ }
+    requires spare { ⌜ uses (now p) (s - 1) ≡ 0 ⌝ }
+    ensures cut { λ _. ⌜ Cut (now (c .entry)) (now (p .entry)) (now (c .exit)) (now (p .exit)) s k o ⌝ }
+    ensures sums { λ _. ⌜ Sums (drop 2048 (now (p .exit))) ⌝ }
+{
+    rotate(p, k + 1, s - 1);
+    rotate(p, LEAVES + k + 1, LEAVES + s - 1);
+    let n = used(p, k) - o;
+    shift(c, p, s, k + 1, k, o, n);
+    recount(p, s);
+}
+
+// Packs the cells together: fills each piece up to 768 cells from those behind it. The last piece is empty afterwards, unless there are too many cells.
+fn repack(c: &mut [u32], p: &mut [u32], s: usize)
+    requires { ⌜ Store (now c) (now p) s ⌝ }
+    ensures same { λ _. ⌜ Same-text (now (c .entry)) (now (p .entry)) (now (c .exit)) (now (p .exit)) s ⌝ }
+    ensures sums { λ _. ⌜ Sums (drop 2048 (now (p .exit))) ⌝ }
+    ensures spare { λ _. ⌜ (before (now (p .entry)) s < 768 * (s - 1) → uses (now (p .exit)) (s - 1) ≡ 0) ⌝ }
+{
+    let mut i = 0;
+    for j in 1..s {
+        i = settle(c, p, s, i, j);
+    }
+    recount(p, s);
+}
+
+// Packs the cells of piece `j` into the pieces from `i` on. Returns the last of them.
+fn settle(c: &mut [u32], p: &mut [u32], s: usize, i: usize, j: usize) -> usize
+    requires order { ⌜ Order (now p) s ⌝ }
+    requires room { ⌜ 4096 * s ≤ length (now c) ⌝ }
+    requires here { ⌜ j < s ⌝ }
+    requires first { ⌜ i ≤ j ⌝ }
+    requires packed { ⌜ Packed (now p) i j ⌝ }
+    ensures same { λ _. ⌜ Same-text (now (c .entry)) (now (p .entry)) (now (c .exit)) (now (p .exit)) s ⌝ }
+    ensures first { λ r. ⌜ r ≤ j ⌝ }
+    ensures packed { λ r. ⌜ Packed (now (p .exit)) r (j + 1) ⌝ }
+{
+    let mut i = i;
+    while i < j && used(p, j) > 0 {
+        i = pour(c, p, s, i, j);
+    }
+    i
+}
+
+// Fills piece `i` up from piece `j`, or goes on to the next piece if it is full. Returns the piece to go on with.
+fn pour(c: &mut [u32], p: &mut [u32], s: usize, i: usize, j: usize) -> usize
+    requires order { ⌜ Order (now p) s ⌝ }
+    requires room { ⌜ 4096 * s ≤ length (now c) ⌝ }
+    requires here { ⌜ j < s ⌝ }
+    requires first { ⌜ i < j ⌝ }
+    requires some { ⌜ 0 < uses (now p) j ⌝ }
+    requires packed { ⌜ Packed (now p) i j ⌝ }
+    ensures same { λ _. ⌜ Same-text (now (c .entry)) (now (p .entry)) (now (c .exit)) (now (p .exit)) s ⌝ }
+    ensures first { λ r. ⌜ r ≤ j ⌝ }
+    ensures packed { λ r. ⌜ Packed (now (p .exit)) r j ⌝ }
+    ensures falls { λ r. ⌜ j - r + uses (now (p .exit)) j < j - i + uses (now (p .entry)) j ⌝ }
+{
+    let has = used(p, i);
+    if has >= FULL {
+        return i + 1;
+    }
+    let n = (FULL - has).min(used(p, j));
+    shift(c, p, s, i, j, 0, n);
+    i
 }

@@ -2,6 +2,8 @@
 use mathlib.Core.Path.{_≡_}
 use mathlib.Core.List.{List, [], _∷_, _++_}
 use Prim.Native.Nat.{ℕ, _+_, _<_}
+use mathlib.Core.Bool.{Bool, _&&_}
+use lib.Dec.{leb, ltb}
 use lib.ListN.{length, getD, drop}
 use Rattle.model.specs.Paper.{Cell, Paper}
 use Rattle.model.specs.Calls.{Call, Answer, Desk, turned, after, answer}
@@ -39,3 +41,7 @@ pub record Noted (ps qs : List ℕ) (a : ℕ) : Type 0 where
 -- the paper p with other cells
 abbrev pub with-cells : Paper → List Cell → Paper
 with-cells p xs = record { cells = xs; changes = p .changes }
+
+-- the limits allow one change more, and so many cells
+abbrev pub allows : List ℕ → ℕ → Bool
+allows ps cells = leb cells (getD ps 0 0) && ltb (getD ps 3 0) (getD ps 1 0)

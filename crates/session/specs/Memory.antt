@@ -36,13 +36,17 @@ undo-words u = 0
 abbrev pub limits-of : List ℕ → Limits
 limits-of ps = record { calls-can = stage; cells = getD ps 0 0; changes = getD ps 1 0; undos = getD ps 2 0 }
 
+-- how many slots the store has
+abbrev pub slots-of : List ℕ → ℕ
+slots-of ps = slots-for (getD ps 0 0)
+
 -- the store's tables
 abbrev pub tables : List ℕ → List ℕ
 tables ps = drop (16 + 2 * getD ps 1 0) ps
 
 -- the paper that memory stands for
 abbrev pub paper-of : List ℕ → List ℕ → Paper
-paper-of cs ps = record { cells = cells-of cs (tables ps) (slots-for (getD ps 0 0)); changes = changes-of (drop 16 ps) (getD ps 3 0) }
+paper-of cs ps = record { cells = cells-of cs (tables ps) (slots-of ps); changes = changes-of (drop 16 ps) (getD ps 3 0) }
 
 -- what always holds of the paper's part of memory once it was opened
 pub record Held (cs ps : List ℕ) : Type 0 where
@@ -51,7 +55,7 @@ pub record Held (cs ps : List ℕ) : Type 0 where
   pub few-undos : getD ps 2 0 ≤ 1000000
   pub cells-long : cells-words (getD ps 0 0) ≤ length cs
   pub pieces-long : pieces-words (getD ps 1 0) ≤ length ps
-  pub store : Store cs (tables ps) (slots-for (getD ps 0 0))
+  pub store : Store cs (tables ps) (slots-of ps)
   pub cells-fit : length (paper-of cs ps .cells) ≤ getD ps 0 0
   pub changes-fit : getD ps 3 0 ≤ getD ps 1 0
 

@@ -1,11 +1,15 @@
 // The desk on lent memory: three slices of words, which the caller lends to every call. `open` makes an empty desk in them, `call` does a call that
 // comes as bytes and writes the answer as bytes. What memory holds, and what each promises of it, is in specs/.
 ghost use Prim.Native.Nat.{ℕ, _*_, _+_, _<_, _≤_};
-ghost use Rattle.session.specs.Acts.{Noted};
+ghost use Rattle.pieces.specs.Store.{Table, before};
+ghost use Rattle.session.specs.Acts.{Noted, allows};
 ghost use Rattle.session.specs.Contract.{Opening};
 ghost use Rattle.session.specs.Keeping.{Any-chain, Main-promise};
-ghost use Rattle.session.specs.Memory.{cells-words, pieces-words, undo-words};
+ghost use Rattle.session.specs.Memory.{cells-words, pieces-words, slots-of, tables, undo-words};
+ghost use Rattle.std.specs.declared.option.Option.the-variants.{None, Some};
+ghost use lib.Dec.{leb};
 ghost use lib.ListN.{drop, getD, length, replicate};
+ghost use mathlib.Core.Bool.{false, true};
 ghost use mathlib.Core.List.{_++_, _∷_};
 ghost use mathlib.Core.Path.{_≡_};
 
@@ -90,6 +94,32 @@ fn begin(pieces: &mut [u32], limits: Limits)
     pieces[0] = limits.cells;
     pieces[1] = limits.changes;
     pieces[2] = limits.undos;
+}
+
+// How many cells the paper has.
+fn count_cells(pieces: &[u32]) -> usize
+    requires few { ⌜ getD (now pieces) 0 0 ≤ 1000000 ⌝ }
+    requires table { ⌜ Table (tables (now pieces)) (slots-of (now pieces)) ⌝ }
+    ensures { λ r. ⌜ r ≡ before (tables (now (pieces .entry))) (slots-of (now (pieces .entry))) ⌝ }
+{
+    let slots = pieces::slots_for(pieces[0] as usize);
+    let from = HEAD + 2 * pieces[1] as usize;
+    pieces::count(&pieces[from..], slots)
+}
+
+// The place before which letters can be put: a cell's, or the end.
+fn place_for(count: usize, place: u32) -> Option<usize>
+    ensures { λ r. ⌜ elim r [ Some at ↦ (at ≡ place) × (leb place count ≡ true) | None ↦ leb place count ≡ false ] ⌝ }
+{
+    if place as usize <= count { Some(place as usize) } else { None }
+}
+
+// The number of a new change, if the limits allow one more and so many cells.
+fn room(pieces: &[u32], cells: usize) -> Option<u32>
+    requires { ⌜ 4 ≤ length (now pieces) ⌝ }
+    ensures { λ r. ⌜ elim r [ Some number ↦ (number ≡ getD (now (pieces .entry)) 3 0) × (allows (now (pieces .entry)) cells ≡ true) | None ↦ allows (now (pieces .entry)) cells ≡ false ] ⌝ }
+{
+    if (cells <= pieces[0] as usize) & (pieces[3] < pieces[1]) { Some(pieces[3]) } else { None }
 }
 
 // One change more, which is open.
