@@ -2,5 +2,6 @@ mod Acting
 mod Heads
 mod Keeping
 mod Opening
+mod Putting
 mod Ranges
 mod Writing

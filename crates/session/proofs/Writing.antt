@@ -5,8 +5,8 @@ use Prim.Native.Nat.{ℕ, suc, _+_, _-_, _*_, _/_, _≤_, _<_}
 use native.Mathlib.Omega.{arith}
 use lib.ListN.{length, getD, take, drop}
 use borrow.Rule.Slice.PartMut.{putMid}
-use Rattle.std.proofs.shelf.Lists.{length-append, length-take-le, length-drop, drop-drop, getD-drop}
-use Rattle.model.specs.Paper.{Cell, Change, Paper}
+use Rattle.std.proofs.shelf.Lists.{length-append, length-take-le, length-drop, drop-drop, getD-drop, take-append-drop}
+use Rattle.model.specs.Paper.{Cell, Change, Paper, new-cells}
 use Rattle.model.specs.Calls.{Limits}
 use Rattle.changes.specs.Row.{changes-of}
 use Rattle.changes.proofs.Row.{changes-same}
@@ -14,6 +14,19 @@ use Rattle.pieces.specs.Store.{Store, Frame, cells-of}
 use Rattle.session.specs.Memory.{stage, slots-for, cells-words, pieces-words, limits-of, tables, paper-of, Held}
 use Rattle.session.specs.Acts.{Wrote, Noted, with-cells}
 use Rattle.session.proofs.Heads.{lent, lent-before, lent-after}
+
+pub length-new : (ls : List ℕ) (s c : ℕ) → length (new-cells ls s c) ≡ length ls
+unfolding new-cells
+length-new [] s c = refl
+length-new (l ∷ ls) s c = ap suc (length-new ls s c)
+
+pub inserted-length : (xs : List Cell) (ls : List ℕ) (i s c : ℕ) → length (take i xs ++ (new-cells ls s c ++ drop i xs)) ≡ length xs + length ls
+inserted-length xs ls i s c =
+    let a = length-append (take i xs) (new-cells ls s c ++ drop i xs) in
+    let b = length-append (new-cells ls s c) (drop i xs) in
+    let d = length-new ls s c in
+    let e : length (take i xs) + length (drop i xs) ≡ length xs = sym (length-append (take i xs) (drop i xs)) ∙ ap length (take-append-drop i xs) in
+    omega arith
 
 -- the store was written, and the words before its tables stayed
 pub restored : (cs ps cs′ t : List ℕ) (xs : List Cell) → Held cs ps → let b : ℕ = 16 + 2 * getD ps 1 0 in let s : ℕ = slots-for (getD ps 0 0) in

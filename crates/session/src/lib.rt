@@ -1,19 +1,24 @@
 // The desk on lent memory: three slices of words, which the caller lends to every call. `open` makes an empty desk in them, `call` does a call that
 // comes as bytes and writes the answer as bytes. What memory holds, and what each promises of it, is in specs/.
 ghost use Prim.Native.Nat.{ℕ, _*_, _+_, _<_, _≤_};
+ghost use Rattle.model.specs.Paper.{new-cells};
 ghost use Rattle.pieces.specs.Store.{Table, before};
-ghost use Rattle.session.specs.Acts.{Noted, allows};
+ghost use Rattle.session.specs.Acts.{Acted, Noted, Wrote, allows, with-cells};
+ghost use Rattle.model.specs.Calls.{good-fields, put as puts};
+ghost use Rattle.codec.specs.Values.{told};
 ghost use Rattle.session.specs.Contract.{Opening};
 ghost use Rattle.session.specs.Keeping.{Any-chain, Main-promise};
-ghost use Rattle.session.specs.Memory.{cells-words, pieces-words, slots-of, tables, undo-words};
+ghost use Rattle.session.specs.Memory.{Held, cells-words, paper-of, pieces-words, slots-of, tables, undo-words};
 ghost use Rattle.std.specs.declared.option.Option.the-variants.{None, Some};
 ghost use lib.Dec.{leb};
-ghost use lib.ListN.{drop, getD, length, replicate};
+ghost use lib.ListN.{drop, getD, length, replicate, take};
 ghost use mathlib.Core.Bool.{false, true};
 ghost use mathlib.Core.List.{_++_, _∷_};
 ghost use mathlib.Core.Path.{_≡_};
 
 mod range;
+
+use codec::Answer;
 
 const HEAD: usize = 16;
 
@@ -96,9 +101,28 @@ fn begin(pieces: &mut [u32], limits: Limits)
     pieces[2] = limits.undos;
 }
 
+// An author puts letters before a cell, or at the end: a new change, whose number is the answer.
+fn put(cells: &mut [u32], pieces: &mut [u32], author: u32, place: u32, style: u32, letters: &[u8]) -> Answer
+    requires held { ⌜ Held (now cells) (now pieces) ⌝ }
+    requires good { ⌜ good-fields (puts author place style (now letters)) ≡ true ⌝ }
+    ensures { λ r. ⌜ Acted (now (cells .entry)) (now (pieces .entry)) (puts author place style (now (letters .entry))) (now (cells .exit)) (now (pieces .exit)) (told r) ⌝ }
+{
+    let count = count_cells(pieces);
+    let Some(at) = place_for(count, place) else {
+        return Answer::Refused(4, 1);
+    };
+    let Some(number) = room(pieces, count + letters.len()) else {
+        return Answer::Refused(9, 0);
+    };
+    insert(cells, pieces, at, letters, style, number);
+    add_change(pieces, author);
+    Answer::Number(number)
+}
+
 // How many cells the paper has.
 fn count_cells(pieces: &[u32]) -> usize
     requires few { ⌜ getD (now pieces) 0 0 ≤ 1000000 ⌝ }
+    requires long { ⌜ pieces-words (getD (now pieces) 1 0) ≤ length (now pieces) ⌝ }
     requires table { ⌜ Table (tables (now pieces)) (slots-of (now pieces)) ⌝ }
     ensures { λ r. ⌜ r ≡ before (tables (now (pieces .entry))) (slots-of (now (pieces .entry))) ⌝ }
 {
@@ -120,6 +144,20 @@ fn room(pieces: &[u32], cells: usize) -> Option<u32>
     ensures { λ r. ⌜ elim r [ Some number ↦ (number ≡ getD (now (pieces .entry)) 3 0) × (allows (now (pieces .entry)) cells ≡ true) | None ↦ allows (now (pieces .entry)) cells ≡ false ] ⌝ }
 {
     if (cells <= pieces[0] as usize) & (pieces[3] < pieces[1]) { Some(pieces[3]) } else { None }
+}
+
+// Puts letters into the store, put in by change number `change`.
+fn insert(cells: &mut [u32], pieces: &mut [u32], place: usize, letters: &[u8], style: u32, change: u32)
+    requires held { ⌜ Held (now cells) (now pieces) ⌝ }
+    requires place { ⌜ place ≤ length (paper-of (now cells) (now pieces) .cells) ⌝ }
+    requires few { ⌜ length (now letters) ≤ 1024 ⌝ }
+    requires fits { ⌜ length (paper-of (now cells) (now pieces) .cells) + length (now letters) ≤ getD (now pieces) 0 0 ⌝ }
+    requires mark { ⌜ change < 4294967295 ⌝ }
+    ensures { λ _. ⌜ Wrote (now (cells .entry)) (now (pieces .entry)) (now (cells .exit)) (now (pieces .exit)) (with-cells (paper-of (now (cells .entry)) (now (pieces .entry))) (take place (paper-of (now (cells .entry)) (now (pieces .entry)) .cells) ++ (new-cells (now (letters .entry)) style change ++ drop place (paper-of (now (cells .entry)) (now (pieces .entry)) .cells)))) ⌝ }
+{
+    let slots = pieces::slots_for(pieces[0] as usize);
+    let from = HEAD + 2 * pieces[1] as usize;
+    pieces::put(cells, &mut pieces[from..], slots, place, letters, style, change);
 }
 
 // One change more, which is open.
