@@ -1,0 +1,5 @@
+use Rattle.codec.proofs.OneAnswer.{one-answer}
+use Rattle.codec.proofs.one_answer.Needs as need
+
+pub returns : need.returns
+returns c = one-answer

@@ -1,0 +1,5 @@
+use Rattle.codec.proofs.ReadableIs.{readable-is}
+use Rattle.codec.proofs.readable_is.Needs as need
+
+pub returns : need.returns
+returns c = readable-is
