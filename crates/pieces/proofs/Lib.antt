@@ -1,0 +1,5 @@
+pub mod Strung
+pub mod Texts
+pub mod Counts
+pub mod Cleared
+pub mod Change
