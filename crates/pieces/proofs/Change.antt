@@ -7,7 +7,7 @@ use native.Mathlib.Nat.{add-zero, zero-add, add-suc, suc-add}
 use native.Mathlib.Omega.{arith}
 use lib.ListN.{length, getD, take, drop}
 use Rattle.std.proofs.shelf.Lists.{append-assoc, append-nil, length-append, length-take-le, length-drop, take-append-drop}
-use Rattle.std.proofs.shelf.Tests.{cases-order}
+use Rattle.std.proofs.shelf.Tests.{cases-order, cases-eq}
 use Rattle.model.specs.Paper.{Cell, new-cells}
 use Rattle.slots.specs.Cells.{cellAt, cellsAt, Kept}
 use Rattle.slots.proofs.Words.{length-cells, cells-split, take-cells, drop-cells, kept-cells-below, kept-cells-above, kept-drop, kept-wider, kept-twice}
@@ -81,7 +81,7 @@ resized-order p q s k n o h l m =
     record { some = o .some; most = most; words = let e = h .long in let w = o .words in omega arith;
         inside = λ j a. rw (h .order j (omega arith)) (o .inside j a);
         apart = λ i j a b e. o .apart i j a b (sym (h .order i (omega arith)) ∙ e ∙ h .order j (omega arith));
-        small = λ j a. ?;
+        small = λ j a. elim (cases-eq j k) [ inl e ↦ rw (e, h .here) m | inr ne ↦ rw (h .others j (omega arith) ne) (o .small j a) ];
         idle = λ j a b. h .others j b (omega arith) ∙ o .idle j a b }
 
 pub changed : (c p d q : List ℕ) (s k : ℕ) (xs : List Cell) → Order p s → k < s → Filled c d p k xs → Resized p q k (length xs) → length xs ≤ 1024
