@@ -1,2 +1,4 @@
 pub mod Bits
 pub mod Spots
+pub mod Scan
+pub mod Found
