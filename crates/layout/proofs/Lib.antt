@@ -2,3 +2,5 @@ pub mod Bits
 pub mod Spots
 pub mod Scan
 pub mod Found
+pub mod Passed
+pub mod Written

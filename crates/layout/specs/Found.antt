@@ -1,13 +1,13 @@
 -- What is found of a row.
 use mathlib.Core.Path.{_≡_}
 use mathlib.Core.List.{List, []}
-use Prim.Native.Nat.{ℕ, suc, _<_}
+use Prim.Native.Nat.{ℕ, suc, _≤_, _<_}
 use lib.ListN.{length, drop}
 use Rattle.std.specs.declared.option.Option.{Option}
 use Rattle.std.specs.declared.option.Option.the-variants.{Some, None}
 use Rattle.model.specs.Paper.{Cell}
-use Rattle.model.specs.Rows.{cut}
-use Rattle.model.specs.Walk.{step}
+use Rattle.model.specs.Rows.{cut, rows}
+use Rattle.model.specs.Walk.{step, rest}
 use Rattle.pieces.specs.declared.Spot.{Spot}
 use Rattle.layout.specs.declared.Row.{Row}
 use Rattle.layout.specs.Spots.{left, Inside}
@@ -31,6 +31,16 @@ pub record Found (c p : List ℕ) (s way width : ℕ) (t : Spot) (r : Row) : Typ
 abbrev pub Row-is : List ℕ → List ℕ → ℕ → ℕ → ℕ → Spot → Option Row → Type 0
 Row-is c p s way width t None = ahead c p s way t ≡ []
 Row-is c p s way width t (Some r) = Found c p s way width t r
+
+-- u is the spot after n rows
+pub record Passed (c p : List ℕ) (s way width : ℕ) (t : Spot) (n : ℕ) (u : Spot) : Type 0 where
+  pub spot : Inside p s (u .piece) (u .offset)
+  pub enough : n ≤ length (rows width (ahead c p s way t))
+  pub left : ahead c p s way u ≡ rest width n (ahead c p s way t)
+
+abbrev pub Spot-is : List ℕ → List ℕ → ℕ → ℕ → ℕ → Spot → ℕ → Option Spot → Type 0
+Spot-is c p s way width t n None = length (rows width (ahead c p s way t)) < n
+Spot-is c p s way width t n (Some u) = Passed c p s way width t n u
 
 -- the last space so far: one more than its place, or 0 for none, and the row that goes to it
 abbrev pub spaced : Option Row → ℕ

@@ -1,12 +1,14 @@
 // Ways to look at a text that is kept in pieces: which cells are seen, how many, and how they stand in rows of a width.
 ghost use mathlib.Core.Path.{_≡_};
 ghost use Prim.Native.Nat.{ℕ, _+_, _*_, _/_, _%_, _^_, _<_, _≤_};
-ghost use lib.ListN.{length};
+ghost use lib.ListN.{length, take};
 ghost use Rattle.model.specs.Paper.{pick, seen, view};
 ghost use Rattle.model.specs.Values.{cell-of};
 ghost use Rattle.pieces.specs.Store.{cells-of, Store};
 ghost use Rattle.layout.specs.Spots.{Inside};
-ghost use Rattle.layout.specs.Found.{Row-is};
+ghost use Rattle.layout.specs.Found.{Row-is, Spot-is, ahead};
+ghost use Rattle.codec.specs.Bytes.{cells-bytes};
+ghost use Rattle.codec.specs.Over.{over};
 use model::Cell;
 use pieces::Spot;
 
@@ -17,7 +19,7 @@ const SPACE: u32 = 32;
 #[derive(Clone, Copy)]
 struct Row {
     from: Spot,
-    long: usize,
+    long: u32,
     next: Spot,
 }
 
@@ -57,7 +59,7 @@ pub fn count(c: &[u32], p: &[u32], s: usize, way: u32) -> usize
 }
 
 // The row that goes from a spot, or none where no cell is left. It goes to the end of a paragraph or to the last space among its first `width` + 1 cells.
-fn row_from(c: &[u32], p: &[u32], s: usize, way: u32, width: usize, from: Spot) -> Option<Row>
+fn row_from(c: &[u32], p: &[u32], s: usize, way: u32, width: u32, from: Spot) -> Option<Row>
     requires store { ⌜ Store (now c) (now p) s ⌝ }
     requires way { ⌜ way < 3 ⌝ }
     requires width { ⌜ width ≤ 256 ⌝ }
@@ -101,4 +103,49 @@ fn row_from(c: &[u32], p: &[u32], s: usize, way: u32, width: usize, from: Spot) 
             Some(Row { from, long, next })
         }
     }
+}
+
+// The spot after `n` rows, or none where there are fewer.
+fn pass_rows(c: &[u32], p: &[u32], s: usize, way: u32, width: u32, from: Spot, n: u32) -> Option<Spot>
+    requires store { ⌜ Store (now c) (now p) s ⌝ }
+    requires way { ⌜ way < 3 ⌝ }
+    requires wide { ⌜ 1 ≤ width ⌝ }
+    requires width { ⌜ width ≤ 256 ⌝ }
+    requires from { ⌜ Inside (now p) s (from .piece) (from .offset) ⌝ }
+    ensures { λ r. ⌜ Spot-is (now (c .entry)) (now (p .entry)) s way width from n r ⌝ }
+{
+    let mut spot = from;
+    for _i in 0..n {
+        spot = row_from(c, p, s, way, width, spot)?.next;
+    }
+    Some(spot)
+}
+
+// Writes the first `n` cells that are seen from a spot on. The answer is the place after them.
+fn write_cells(c: &[u32], p: &[u32], s: usize, way: u32, from: Spot, n: u32, out: &mut [u8], at: usize) -> usize
+    requires store { ⌜ Store (now c) (now p) s ⌝ }
+    requires way { ⌜ way < 3 ⌝ }
+    requires from { ⌜ Inside (now p) s (from .piece) (from .offset) ⌝ }
+    requires enough { ⌜ n ≤ length (ahead (now c) (now p) s way from) ⌝ }
+    requires room { ⌜ at + 16 * n ≤ length (now out) ⌝ }
+    ensures bytes { λ r. ⌜ now (out .exit) ≡ over (now (out .entry)) at (cells-bytes (take n (ahead (now (c .entry)) (now (p .entry)) s way from))) ⌝ }
+    ensures next { λ r. ⌜ r ≡ at + 16 * n ⌝ }
+{
+    let mut at = at;
+    let mut rest = n;
+    let mut start = from.offset;
+    'row: for k in from.piece..s {
+        for j in start..pieces::used(p, k) {
+            if rest == 0 {
+                break 'row;
+            }
+            let x = pieces::cell(c, p, s, k, j);
+            if sees(way, x) {
+                at = codec::cell(out, at, x);
+                rest -= 1;
+            }
+        }
+        start = 0;
+    }
+    at
 }
