@@ -8,7 +8,7 @@ use native.Mathlib.Omega.{arith}
 use lib.Dec.{eqb}
 use lib.ListN.{length, getD, drop}
 use Rattle.std.proofs.shelf.Tests.{eq-eqb, ne-eqb}
-use Rattle.std.specs.Options.{valueOr}
+use Rattle.std.specs.Options.{isSome, valueOr}
 use Rattle.std.specs.declared.option.Option.{Option}
 use Rattle.std.specs.declared.option.Option.the-variants.{Some, None}
 use Rattle.model.specs.Paper.{pick, Cell, seen}
@@ -124,3 +124,11 @@ module _ (c p : List ℕ) (s way w : ℕ) (t : Spot) (k j long : ℕ) (space : O
       found c p s way w t r 0 (scan-all w (ahead c p s way t) long (spaced space) scan-end-of-text) (omega arith)
       (subst (λ m. Goes-on c p s way t m r) n
       (record { from = refl; spot = record { piece = omega arith; offset = omega arith }; rest = left-end c p s way s 0 refl ∙ sym (scan-end-of-text .rest) }))
+
+-- a row is found where something is left
+pub is-found : (c p : List ℕ) (s way w : ℕ) (t : Spot) (o : Option Row) → Row-is c p s way w t o → 0 < length (ahead c p s way t) → isSome o ≡ true
+is-found c p s way w t None h some = absurd (let e = ap length h in omega arith)
+is-found c p s way w t (Some r) h some = refl
+
+pub found-row : (c p : List ℕ) (s way w : ℕ) (t : Spot) (o : Option Row) (r : Row) → Row-is c p s way w t o → o ≡ Some r → Found c p s way w t r
+found-row c p s way w t o r h e = subst (Row-is c p s way w t) e h

@@ -4,3 +4,4 @@ pub mod Scan
 pub mod Found
 pub mod Passed
 pub mod Written
+pub mod Shown

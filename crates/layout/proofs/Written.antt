@@ -5,11 +5,16 @@ use Prim.Native.Nat.{ℕ, suc, _+_, _-_, _*_, _≤_, _<_}
 use native.Mathlib.Nat.{add-zero}
 use native.Mathlib.Omega.{arith}
 use lib.ListN.{length, take, drop}
-use Rattle.std.proofs.shelf.Lists.{take-append-drop, length-append, length-take-le}
+use Rattle.std.proofs.shelf.Lists.{take-append-drop, length-append, length-take, length-take-le, getD-take}
 use Rattle.model.specs.Paper.{Cell}
+use Rattle.model.specs.Rows.{cut, rows}
+use Rattle.model.specs.Walk.{step}
+use Rattle.model.specs.Calls.{lines}
+use Rattle.model.specs.Promise.{Rows-fit}
+use Rattle.model.proofs.Rows.{rows-fit, rows-any, rows-step, step-inside}
 use Rattle.codec.specs.Bytes.{word-bytes, words-bytes, cells-bytes, rows-bytes, answer-bytes}
 use Rattle.codec.specs.Over.{over}
-use Rattle.codec.proofs.Writes.{over-more, length-cells-bytes}
+use Rattle.codec.proofs.Writes.{over-more, length-cells-bytes, rows-bytes-fit, over-step, over-start}
 
 pub record Written (out : List ℕ) (at : ℕ) (bs : List ℕ) (out′ : List ℕ) (at′ : ℕ) (bs′ : List ℕ) : Type 0 where
   pub bytes : over out′ at′ bs′ ≡ over out at bs
@@ -91,3 +96,84 @@ module _ (o : List ℕ) (a n : ℕ) (xs : List Cell) (o′ : List ℕ) (a′ m :
       let d = written-done (cells-bytes (take m ys)) (h .written) (rw z cells-bytes-none) in
       let p = cells-place l in
       (d .0, omega arith)
+
+-- the same of the first n rows of xs, when the first m of ys are still to be written
+pub record Rows-written (w : ℕ) (out : List ℕ) (at n : ℕ) (xs : List Cell) (out′ : List ℕ) (at′ m : ℕ) (ys : List Cell) : Type 0 where
+  pub written : Written out at (rows-bytes (take n (rows w xs))) out′ at′ (rows-bytes (take m (rows w ys)))
+  pub enough : m ≤ length (rows w ys)
+
+rows-room : (w n : ℕ) (xs : List Cell) → 0 < w → w ≤ 256 → length (rows-bytes (take n (rows w xs))) ≤ 4100 * n
+unfolding Rows-fit
+rows-room w n xs wide h =
+    let l = length-take n (rows w xs) in
+    let f = rows-bytes-fit 256 (take n (rows w xs)) (λ i k. rw (getD-take n (rows w xs) i [] (omega arith)) (let r = rows-fit w i xs wide (omega arith) in omega arith)) in
+    omega arith
+
+pub rows-start : (w : ℕ) (out : List ℕ) (at n : ℕ) (xs : List Cell) → n ≤ length (rows w xs) → Rows-written w out at n xs out at n xs
+rows-start w out at n xs h = record { written = written-start out at (rows-bytes (take n (rows w xs))); enough = h }
+
+length-word : (n : ℕ) → length (word-bytes n) ≡ 4
+unfolding word-bytes
+length-word n = refl
+
+-- one row further, of m rows; l are left after it
+module _ (w : ℕ) (wide : 0 < w) (o : List ℕ) (a n : ℕ) (xs : List Cell) (o′ : List ℕ) (a′ m : ℕ) (ys : List Cell) (h : Rows-written w o a n xs o′ a′ m ys)
+    (l : ℕ) (e : m ≡ suc l) where
+  pub rows-some : 0 < length ys
+  rows-some = let t = h .enough in rows-any w ys wide .0 (omega arith)
+
+  pub row-inside : cut w ys .long ≤ length ys
+  row-inside = let s = step-inside w ys in omega arith
+
+  row-bytes : rows-bytes (take m (rows w ys)) ≡ word-bytes (cut w ys .long) ++ (cells-bytes (take (cut w ys .long) ys) ++ rows-bytes (take l (rows w (drop (step w ys) ys))))
+  unfolding rows-bytes
+  row-bytes =
+      let s = rows-step w ys wide rows-some in
+      let k = length-take-le (cut w ys .long) ys row-inside in
+      rw (s, e, k) refl
+
+  pub row-room : w ≤ 256 → a′ + (4 + 16 * cut w ys .long) ≤ a + 4100 * n
+  row-room small =
+      let p = h .written .place in
+      let r = rows-room w n xs wide small in
+      let b = ap length row-bytes in
+      let b1 = length-append (word-bytes (cut w ys .long)) (cells-bytes (take (cut w ys .long) ys) ++ rows-bytes (take l (rows w (drop (step w ys) ys)))) in
+      let b2 = length-append (cells-bytes (take (cut w ys .long) ys)) (rows-bytes (take l (rows w (drop (step w ys) ys)))) in
+      let b3 = length-word (cut w ys .long) in
+      let b4 = length-cells-bytes (take (cut w ys .long) ys) in
+      let b5 = length-take-le (cut w ys .long) ys row-inside in
+      omega arith
+
+  pub rows-more : (zs : List Cell) → zs ≡ drop (step w ys) ys → (long : ℕ) → long ≡ cut w ys .long → (o₁ o₂ : List ℕ) (a₁ a₂ : ℕ)
+      → o₁ ≡ over o′ a′ (word-bytes long) → a₁ ≡ a′ + 4 → a₁ ≤ length o′ → o₂ ≡ over o₁ a₁ (cells-bytes (take long ys)) → a₂ ≡ a₁ + 16 * long → a₂ ≤ length o₁
+      → Rows-written w o a n xs o₂ a₂ l zs
+  rows-more zs f long g o₁ o₂ a₁ a₂ w1 p1 l1 w2 p2 l2 =
+      let b3 = length-word long in
+      let b4 = length-cells-bytes (take long ys) in
+      let b5 = length-take-le long ys (let i = row-inside in omega arith) in
+      let s = ap length (rows-step w ys wide rows-some) in
+      let t = h .enough in
+      let tail : List ℕ = rows-bytes (take l (rows w zs)) in
+      let first : Written o′ a′ (rows-bytes (take m (rows w ys))) o₁ a₁ (cells-bytes (take long ys) ++ tail) =
+          written-more o′ a′ (rows-bytes (take m (rows w ys))) (word-bytes long) (cells-bytes (take long ys) ++ tail) o₁ a₁ (rw (f, g) row-bytes) w1 (omega arith) l1
+      in
+      let second : Written o₁ a₁ (cells-bytes (take long ys) ++ tail) o₂ a₂ tail =
+          written-more o₁ a₁ (cells-bytes (take long ys) ++ tail) (cells-bytes (take long ys)) tail o₂ a₂ refl w2 (omega arith) l2
+      in
+      record { written = written-both (h .written) (written-both first second); enough = rw f (omega arith) }
+
+-- all rows are written, after the head of the answer
+pub rows-done : (w : ℕ) (out o : List ℕ) (a n : ℕ) (xs : List Cell) (o′ : List ℕ) (a′ m : ℕ) (ys : List Cell) → Rows-written w o a n xs o′ a′ m ys → m ≡ 0 → n ≤ length (rows w xs)
+    → o ≡ over out 0 (3 ∷ word-bytes n) → a ≡ 0 + 5 → 5 ≤ length out
+    → (o′ ≡ answer-bytes (lines (take n (rows w xs))) ++ drop a′ out) × (a′ ≡ length (answer-bytes (lines (take n (rows w xs)))))
+unfolding answer-bytes rows-bytes
+rows-done w out o a n xs o′ a′ m ys h z enough head place room =
+    let d = written-done (rows-bytes (take m (rows w ys))) (h .written) (rw z refl) in
+    let k = length-word n in
+    let r : List (List Cell) = take n (rows w xs) in
+    let t = length-take-le n (rows w xs) enough in
+    let s = over-step out 0 (3 ∷ word-bytes n) (rows-bytes r) head (omega arith) (omega arith) (d .0) in
+    let v = over-start out ((3 ∷ word-bytes n) ++ rows-bytes r) in
+    let b = length-append (word-bytes n) (rows-bytes r) in
+    let q : a′ ≡ length ((3 ∷ word-bytes n) ++ rows-bytes r) = let c = d .1 in omega arith in
+    (rw (t, q) (s ∙ v), rw t q)

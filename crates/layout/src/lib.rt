@@ -1,14 +1,18 @@
 // Ways to look at a text that is kept in pieces: which cells are seen, how many, and how they stand in rows of a width.
 ghost use mathlib.Core.Path.{_≡_};
 ghost use Prim.Native.Nat.{ℕ, _+_, _*_, _/_, _%_, _^_, _<_, _≤_};
-ghost use lib.ListN.{length, take};
+ghost use mathlib.Core.List.{_++_};
+ghost use lib.ListN.{length, take, drop};
 ghost use Rattle.model.specs.Paper.{pick, seen, view};
+ghost use Rattle.model.specs.Rows.{rows};
+ghost use Rattle.model.specs.Calls.{lines};
 ghost use Rattle.model.specs.Values.{cell-of};
 ghost use Rattle.pieces.specs.Store.{cells-of, Store};
 ghost use Rattle.layout.specs.Spots.{Inside};
-ghost use Rattle.layout.specs.Found.{Row-is, Spot-is, ahead};
-ghost use Rattle.codec.specs.Bytes.{cells-bytes};
+ghost use Rattle.codec.specs.Bytes.{cells-bytes, answer-bytes};
 ghost use Rattle.codec.specs.Over.{over};
+ghost use Rattle.layout.specs.Found.{Row-is, Spot-is, ahead};
+ghost use Rattle.layout.specs.Shown.{Shown};
 use model::Cell;
 use pieces::Spot;
 
@@ -148,4 +152,47 @@ fn write_cells(c: &[u32], p: &[u32], s: usize, way: u32, from: Spot, n: u32, out
         start = 0;
     }
     at
+}
+
+// Writes `n` rows from a spot on as an answer, and says how many bytes it has.
+fn write_rows(c: &[u32], p: &[u32], s: usize, way: u32, width: u32, from: Spot, n: u32, out: &mut [u8]) -> usize
+    requires store { ⌜ Store (now c) (now p) s ⌝ }
+    requires way { ⌜ way < 3 ⌝ }
+    requires wide { ⌜ 1 ≤ width ⌝ }
+    requires width { ⌜ width ≤ 256 ⌝ }
+    requires from { ⌜ Inside (now p) s (from .piece) (from .offset) ⌝ }
+    requires few { ⌜ n ≤ 64 ⌝ }
+    requires enough { ⌜ n ≤ length (rows width (ahead (now c) (now p) s way from)) ⌝ }
+    requires room { ⌜ 262405 ≤ length (now out) ⌝ }
+    ensures bytes { λ r. ⌜ now (out .exit) ≡ answer-bytes (lines (take n (rows width (ahead (now (c .entry)) (now (p .entry)) s way from)))) ++ drop r (now (out .entry)) ⌝ }
+    ensures long { λ r. ⌜ r ≡ length (answer-bytes (lines (take n (rows width (ahead (now (c .entry)) (now (p .entry)) s way from))))) ⌝ }
+{
+    let mut at = codec::begin_rows(out, 0, n);
+    let mut spot = from;
+    for _i in 0..n {
+        let row = row_from(c, p, s, way, width, spot).unwrap();
+        at = codec::number(out, at, row.long);
+        at = write_cells(c, p, s, way, row.from, row.long, out, at);
+        spot = row.next;
+    }
+    at
+}
+
+// Writes `n` rows from row number `first` on as an answer, and says how many bytes it has; or nothing, where these rows are not there.
+pub fn show(c: &[u32], p: &[u32], s: usize, way: u32, width: u32, first: u32, n: u32, out: &mut [u8]) -> Option<usize>
+    requires store { ⌜ Store (now c) (now p) s ⌝ }
+    requires way { ⌜ way < 3 ⌝ }
+    requires wide { ⌜ 1 ≤ width ⌝ }
+    requires width { ⌜ width ≤ 256 ⌝ }
+    requires few { ⌜ n ≤ 64 ⌝ }
+    requires room { ⌜ 262405 ≤ length (now out) ⌝ }
+    ensures { λ r. ⌜ Shown (rows width (view way (cells-of (now (c .entry)) (now (p .entry)) s))) first n (now (out .entry)) (now (out .exit)) r ⌝ }
+{
+    let start = Spot {
+        piece: 0,
+        offset: 0,
+    };
+    let from = pass_rows(c, p, s, way, width, start, first)?;
+    let _ = pass_rows(c, p, s, way, width, from, n)?;
+    Some(write_rows(c, p, s, way, width, from, n, out))
 }

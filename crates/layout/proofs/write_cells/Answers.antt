@@ -5,7 +5,7 @@ use lib.ListN.{length}
 use Rattle.model.specs.Values.{cell-of}
 use Rattle.pieces.specs.Store.{used}
 use Rattle.layout.proofs.Spots.{left-seen, left-unseen, left-next, left-end}
-use Rattle.layout.proofs.Written.{cells-start, cells-both, cells-place, cells-same, cells-more, cells-done}
+use Rattle.layout.proofs.Written.{cells-both, cells-place, cells-same, cells-more, cells-done}
 use Rattle.layout.proofs.write_cells.Needs as need
 use Rattle.layout.proofs.write_cells.Needs.{then-sees, else-sees}
 
@@ -15,9 +15,6 @@ cell-at-requires c κs =
     let b = cells-place _ _ _ _ _ _ _ _ (c .loop-j .inv) (c .row .inv .0 .enough) in
     let n = c .if-rest-eq0 .left in
     omega arith
-
-pub loop-j-holds : need.loop-j-holds
-loop-j-holds c = cells-start _ _ _ _ (c .row .inv .0 .enough)
 
 pub loop-j-again : need.loop-j-again
 loop-j-again c =
