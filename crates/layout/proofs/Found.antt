@@ -18,9 +18,18 @@ use Rattle.pieces.specs.Store.{used, cells-of, before, no-cell}
 use Rattle.pieces.specs.declared.Spot.{Spot}
 use Rattle.layout.specs.declared.Row.{Row}
 use Rattle.layout.specs.Spots.{left, Inside}
-use Rattle.layout.specs.Found.{ahead, Goes-on, Found, Row-is, spaced, Space-row}
+use Rattle.layout.specs.Found.{ahead, Goes-on, Found, Row-is}
 use Rattle.layout.proofs.Spots.{left-seen, left-end}
 use Rattle.layout.proofs.Scan.{Scan, scan-start, scan-next, scan-some, scan-end, scan-more, scan-full, scan-all}
+
+-- the last space so far: one more than its place, or 0 for none, and the row that goes to it
+abbrev pub spaced : Option Row → ℕ
+spaced None = 0
+spaced (Some r) = suc (r .long)
+
+abbrev pub Space-row : List ℕ → List ℕ → ℕ → ℕ → Spot → Option Row → Type 0
+Space-row c p s way t None = Unit {0}
+Space-row c p s way t (Some r) = Goes-on c p s way t (suc (r .long)) r
 
 -- How far the search for the end of a row from the spot t has come: `long` letters, and the cells from cell j of piece k on are to come.
 pub record Sought (c p : List ℕ) (s way w : ℕ) (t : Spot) (k j long : ℕ) (space : Option Row) : Type 0 where
@@ -64,7 +73,7 @@ module _ (c p : List ℕ) (s way w : ℕ) (t : Spot) (k j long : ℕ) (space : O
   to = record { from = t; long = long; next = record { piece = k; offset = j + 1 } }
 
   abbrev full : Row
-  full = record { from = t; long = long; next = record { piece = k; offset = j } }
+  full = record { from = t; long = w; next = record { piece = k; offset = j } }
 
   some : 0 < length xs
   some = let l = scan-some w xs x (left c p s way k (j + 1)) long (spaced space) scan in omega arith
@@ -74,8 +83,8 @@ module _ (c p : List ℕ) (s way w : ℕ) (t : Spot) (k j long : ℕ) (space : O
   goes-to =
       record { from = refl; spot = record { piece = omega arith; offset = omega arith }; rest = sym (scan-next w xs x (left c p s way k (j + 1)) long (spaced space) scan) }
 
-  goes-full : Goes-on c p s way t long full
-  goes-full = record { from = refl; spot = record { piece = omega arith; offset = omega arith }; rest = sym (h .scan .rest) }
+  goes-full : long ≡ w → Goes-on c p s way t w full
+  goes-full l = record { from = refl; spot = record { piece = omega arith; offset = omega arith }; rest = rw (sym l) (sym (h .scan .rest)) }
 
   pub sought-end : x .letter ≡ 10 → Found c p s way w t to
   unfolding xs
@@ -91,17 +100,18 @@ module _ (c p : List ℕ) (s way w : ℕ) (t : Spot) (k j long : ℕ) (space : O
   spaces-at next (inl (l, is)) = rw (is, eq-eqb _ _ l)
   spaces-at next (inr (l, is)) = rw (is, ne-eqb _ _ l)
 
-  pub sought-more : (x .letter ≡ 10 → ⊥) → (long ≡ w → ⊥) → (next : Option Row) → Spaces x to space next → Sought c p s way w t k (j + 1) (long + 1) next
+  pub sought-more : (x .letter ≡ 10 → ⊥) → long + 1 ≤ w → (next : Option Row) → Spaces x to space next → Sought c p s way w t k (j + 1) (long + 1) next
   unfolding xs
   sought-more ne lw next sp =
-      let f = h .scan .fits in
       record { scan = rw (sym (spaces-at next sp)) (scan-more w xs x (left c p s way k (j + 1)) long (spaced space) scan ne (omega arith)); row = spaces-row next sp }
 
-  pub sought-full : (x .letter ≡ 10 → ⊥) → long ≡ w → (next : Option Row) → Spaces x to space next → (r : Row) → r ≡ valueOr next full → Found c p s way w t r
+  pub sought-full : (x .letter ≡ 10 → ⊥) → w < long + 1 → (next : Option Row) → Spaces x to space next → (r : Row) → r ≡ valueOr next full → Found c p s way w t r
   unfolding xs
   sought-full ne lw next sp r is =
+      let f = h .scan .fits in
+      let l : long ≡ w = omega arith in
       found-broken c p s way w t next full
-      (scan-full w xs x (left c p s way k (j + 1)) long (spaced space) scan ne lw ∙ ap (cut-after w) (spaces-at next sp)) some (spaces-row next sp) lw goes-full r is
+      (scan-full w xs x (left c p s way k (j + 1)) long (spaced space) scan ne l ∙ ap (cut-after w) (spaces-at next sp)) some (spaces-row next sp) refl (goes-full l) r is
 
 -- the same spot by another name
 pub sought-same : (c p : List ℕ) (s way w : ℕ) (t : Spot) (k j k′ j′ long : ℕ) (space : Option Row) → left c p s way k j ≡ left c p s way k′ j′

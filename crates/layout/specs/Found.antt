@@ -1,7 +1,7 @@
 -- What is found of a row.
 use mathlib.Core.Path.{_≡_}
 use mathlib.Core.List.{List, []}
-use Prim.Native.Nat.{ℕ, suc, _≤_, _<_}
+use Prim.Native.Nat.{ℕ, _≤_, _<_}
 use lib.ListN.{length, drop}
 use Rattle.std.specs.declared.option.Option.{Option}
 use Rattle.std.specs.declared.option.Option.the-variants.{Some, None}
@@ -41,12 +41,3 @@ pub record Passed (c p : List ℕ) (s way width : ℕ) (t : Spot) (n : ℕ) (u :
 abbrev pub Spot-is : List ℕ → List ℕ → ℕ → ℕ → ℕ → Spot → ℕ → Option Spot → Type 0
 Spot-is c p s way width t n None = length (rows width (ahead c p s way t)) < n
 Spot-is c p s way width t n (Some u) = Passed c p s way width t n u
-
--- the last space so far: one more than its place, or 0 for none, and the row that goes to it
-abbrev pub spaced : Option Row → ℕ
-spaced None = 0
-spaced (Some r) = suc (r .long)
-
-abbrev pub Space-row : List ℕ → List ℕ → ℕ → ℕ → Spot → Option Row → Type 0
-Space-row c p s way t None = Unit {0}
-Space-row c p s way t (Some r) = Goes-on c p s way t (suc (r .long)) r

@@ -66,7 +66,7 @@ pub fn count(c: &[u32], p: &[u32], s: usize, way: u32) -> usize
 fn row_from(c: &[u32], p: &[u32], s: usize, way: u32, width: u32, from: Spot) -> Option<Row>
     requires store { ⌜ Store (now c) (now p) s ⌝ }
     requires way { ⌜ way < 3 ⌝ }
-    requires width { ⌜ width ≤ 256 ⌝ }
+    requires most { ⌜ width ≤ 256 ⌝ }
     requires from { ⌜ Inside (now p) s (from .piece) (from .offset) ⌝ }
     ensures { λ r. ⌜ Row-is (now (c .entry)) (now (p .entry)) s way width from r ⌝ }
 {
@@ -88,11 +88,11 @@ fn row_from(c: &[u32], p: &[u32], s: usize, way: u32, width: u32, from: Spot) ->
                     if x.letter == SPACE {
                         space = Some(Row { from, long, next });
                     }
-                    if long == width {
-                        let next = Spot { piece: k, offset: j };
-                        break 'row Some(space.unwrap_or(Row { from, long, next }));
-                    }
                     long += 1;
+                    if long > width {
+                        let next = Spot { piece: k, offset: j };
+                        break 'row Some(space.unwrap_or(Row { from, long: width, next }));
+                    }
                 }
             }
             start = 0;
@@ -113,8 +113,8 @@ fn row_from(c: &[u32], p: &[u32], s: usize, way: u32, width: u32, from: Spot) ->
 fn pass_rows(c: &[u32], p: &[u32], s: usize, way: u32, width: u32, from: Spot, n: u32) -> Option<Spot>
     requires store { ⌜ Store (now c) (now p) s ⌝ }
     requires way { ⌜ way < 3 ⌝ }
-    requires wide { ⌜ 1 ≤ width ⌝ }
-    requires width { ⌜ width ≤ 256 ⌝ }
+    requires least { ⌜ 1 ≤ width ⌝ }
+    requires most { ⌜ width ≤ 256 ⌝ }
     requires from { ⌜ Inside (now p) s (from .piece) (from .offset) ⌝ }
     ensures { λ r. ⌜ Spot-is (now (c .entry)) (now (p .entry)) s way width from n r ⌝ }
 {
@@ -158,8 +158,8 @@ fn write_cells(c: &[u32], p: &[u32], s: usize, way: u32, from: Spot, n: u32, out
 fn write_rows(c: &[u32], p: &[u32], s: usize, way: u32, width: u32, from: Spot, n: u32, out: &mut [u8]) -> usize
     requires store { ⌜ Store (now c) (now p) s ⌝ }
     requires way { ⌜ way < 3 ⌝ }
-    requires wide { ⌜ 1 ≤ width ⌝ }
-    requires width { ⌜ width ≤ 256 ⌝ }
+    requires least { ⌜ 1 ≤ width ⌝ }
+    requires most { ⌜ width ≤ 256 ⌝ }
     requires from { ⌜ Inside (now p) s (from .piece) (from .offset) ⌝ }
     requires few { ⌜ n ≤ 64 ⌝ }
     requires enough { ⌜ n ≤ length (rows width (ahead (now c) (now p) s way from)) ⌝ }
@@ -182,8 +182,8 @@ fn write_rows(c: &[u32], p: &[u32], s: usize, way: u32, width: u32, from: Spot, 
 pub fn show(c: &[u32], p: &[u32], s: usize, way: u32, width: u32, first: u32, n: u32, out: &mut [u8]) -> Option<usize>
     requires store { ⌜ Store (now c) (now p) s ⌝ }
     requires way { ⌜ way < 3 ⌝ }
-    requires wide { ⌜ 1 ≤ width ⌝ }
-    requires width { ⌜ width ≤ 256 ⌝ }
+    requires least { ⌜ 1 ≤ width ⌝ }
+    requires most { ⌜ width ≤ 256 ⌝ }
     requires few { ⌜ n ≤ 64 ⌝ }
     requires room { ⌜ 262405 ≤ length (now out) ⌝ }
     ensures { λ r. ⌜ Shown (rows width (view way (cells-of (now (c .entry)) (now (p .entry)) s))) first n (now (out .entry)) (now (out .exit)) r ⌝ }

@@ -9,10 +9,10 @@ returns-in-Break-from c =
 pub returns-in-Break-pass-rows : need.returns-in-Break-pass-rows
 returns-in-Break-pass-rows c =
     simp (c .from-residual-in-Break-pass-rows .ensures)
-    (too-few-after (c .args .c .now) (c .args .p .now) (c .args .s) (c .args .way) (c .args .width) (c .pre .wide) (c .args .first) (c .in-Continue-from .from) (c .in-Continue-from .ensures tt)
+    (too-few-after (c .args .c .now) (c .args .p .now) (c .args .s) (c .args .way) (c .args .width) (c .pre .least) (c .args .first) (c .in-Continue-from .from) (c .in-Continue-from .ensures tt)
     (c .args .n) (c .args .out .now) (c .in-Break-pass-rows .ensures tt))
 
 pub returns : need.returns
 returns c =
-    shows (c .args .c .now) (c .args .p .now) (c .args .s) (c .args .way) (c .args .width) (c .pre .wide) (c .args .first) (c .in-Continue-from .from) (c .in-Continue-from .ensures tt)
+    shows (c .args .c .now) (c .args .p .now) (c .args .s) (c .args .way) (c .args .width) (c .pre .least) (c .args .first) (c .in-Continue-from .from) (c .in-Continue-from .ensures tt)
     (c .args .n) (c .args .out .now) (c .write-rows .last .out) (c .write-rows .result) (c .in-Continue-pass-rows .ensures tt .enough) (c .write-rows .ensures .bytes) (c .write-rows .ensures .long)

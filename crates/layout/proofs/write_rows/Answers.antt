@@ -14,19 +14,19 @@ use Rattle.layout.proofs.write_rows.Needs as need
 pub unwrap-row-requires : need.unwrap-row-requires
 unwrap-row-requires c κs =
     let e : c .args .n - c .loop-i .-i ≡ suc (c .args .n - (c .loop-i .-i + 1)) = omega arith in
-    is-found _ _ _ _ _ _ _ (c .row-from .ensures) (rows-some _ (c .pre .wide) _ _ _ _ _ _ _ _ (c .loop-i .inv .0) _ e)
+    is-found _ _ _ _ _ _ _ (c .row-from .ensures) (rows-some _ (c .pre .least) _ _ _ _ _ _ _ _ (c .loop-i .inv .0) _ e)
 
 pub number-at-requires : need.number-at-requires
 number-at-requires c κs =
     let e : c .args .n - c .loop-i .-i ≡ suc (c .args .n - (c .loop-i .-i + 1)) = omega arith in
-    let r = row-room _ (c .pre .wide) _ _ _ _ _ _ _ _ (c .loop-i .inv .0) _ e (c .pre .width) in
+    let r = row-room _ (c .pre .least) _ _ _ _ _ _ _ _ (c .loop-i .inv .0) _ e (c .pre .most) in
     omega arith
 
 pub write-cells-at-requires : need.write-cells-at-requires
 write-cells-at-requires c κs =
     let e : c .args .n - c .loop-i .-i ≡ suc (c .args .n - (c .loop-i .-i + 1)) = omega arith in
-    let r = row-room _ (c .pre .wide) _ _ _ _ _ _ _ _ (c .loop-i .inv .0) _ e (c .pre .width) in
-    let i = row-inside _ (c .pre .wide) _ _ _ _ _ _ _ _ (c .loop-i .inv .0) _ e in
+    let r = row-room _ (c .pre .least) _ _ _ _ _ _ _ _ (c .loop-i .inv .0) _ e (c .pre .most) in
+    let i = row-inside _ (c .pre .least) _ _ _ _ _ _ _ _ (c .loop-i .inv .0) _ e in
     let f = found-row _ _ _ _ _ _ _ _ (c .row-from .ensures) (c .unwrap-row .ensures) in
     let l = f .long in
     let t = sym (f .next .from) in
@@ -39,7 +39,7 @@ write-cells-at-requires c κs =
 pub loop-i-again : need.loop-i-again
 loop-i-again c =
     let e : c .args .n - c .loop-i .-i ≡ suc (c .args .n - (c .loop-i .-i + 1)) = omega arith in
-    let r = row-room _ (c .pre .wide) _ _ _ _ _ _ _ _ (c .loop-i .inv .0) _ e (c .pre .width) in
+    let r = row-room _ (c .pre .least) _ _ _ _ _ _ _ _ (c .loop-i .inv .0) _ e (c .pre .most) in
     let f = found-row _ _ _ _ _ _ _ _ (c .row-from .ensures) (c .unwrap-row .ensures) in
     let l = f .long in
     let b : c .write-cells-at .last .out ≡ over (c .number-at .last .out) (c .number-at .result)
@@ -47,7 +47,7 @@ loop-i-again c =
         subst (λ (u : Spot). c .write-cells-at .last .out ≡ over (c .number-at .last .out) (c .number-at .result)
         (cells-bytes (take (c .unwrap-row .result .long) (ahead (c .args .c .now) (c .args .p .now) (c .args .s) (c .args .way) u)))) (f .next .from) (c .write-cells-at .ensures .bytes)
     in
-    (rows-more _ (c .pre .wide) _ _ _ _ _ _ _ _ (c .loop-i .inv .0) _ e _ (f .next .rest) _ l _ _ _ _
+    (rows-more _ (c .pre .least) _ _ _ _ _ _ _ _ (c .loop-i .inv .0) _ e _ (f .next .rest) _ l _ _ _ _
     (c .number-at .ensures .bytes) (c .number-at .ensures .next) (omega arith) b (c .write-cells-at .ensures .next) (omega arith), f .next .spot)
 
 pub returns : need.returns
