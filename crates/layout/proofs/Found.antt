@@ -1,26 +1,25 @@
 -- From what a scan found to the row.
 use mathlib.Core.Path.{_≡_, refl, sym, ap, subst, _∙_}
-use mathlib.Core.Bool.{Bool, true, false}
+use mathlib.Core.Bool.{true}
 use mathlib.Core.Logic.{_⊎_, inl, inr}
 use mathlib.Core.List.{List, [], _∷_}
-use Prim.Native.Nat.{ℕ, zero, suc, _+_, _-_, _≤_, _<_}
+use Prim.Native.Nat.{ℕ, suc, _+_, _≤_, _<_}
 use native.Mathlib.Omega.{arith}
 use lib.Dec.{eqb}
-use lib.ListN.{length, getD, drop}
+use lib.ListN.{length, getD}
 use Rattle.std.proofs.shelf.Tests.{eq-eqb, ne-eqb}
 use Rattle.std.specs.Options.{isSome, valueOr}
 use Rattle.std.specs.declared.option.Option.{Option}
 use Rattle.std.specs.declared.option.Option.the-variants.{Some, None}
 use Rattle.model.specs.Paper.{pick, Cell, seen}
 use Rattle.model.specs.Rows.{Cut, cut, cut-after}
-use Rattle.model.specs.Walk.{step}
 use Rattle.pieces.specs.Store.{used, cells-of, before, no-cell}
 use Rattle.pieces.specs.declared.Spot.{Spot}
 use Rattle.layout.specs.declared.Row.{Row}
-use Rattle.layout.specs.Spots.{left, Inside}
+use Rattle.layout.specs.Spots.{left}
 use Rattle.layout.specs.Found.{ahead, Goes-on, Found, Row-is}
 use Rattle.layout.proofs.Spots.{left-seen, left-end}
-use Rattle.layout.proofs.Scan.{Scan, scan-start, scan-next, scan-some, scan-end, scan-more, scan-full, scan-all}
+use Rattle.layout.proofs.Scan.{Scan, scan-next, scan-some, scan-end, scan-more, scan-full, scan-all}
 
 -- the last space so far: one more than its place, or 0 for none, and the row that goes to it
 abbrev pub spaced : Option Row → ℕ

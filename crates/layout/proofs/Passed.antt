@@ -2,13 +2,13 @@
 use mathlib.Core.Path.{_≡_, refl, sym, ap, _∙_}
 use mathlib.Core.Logic.{inl, inr}
 use mathlib.Core.List.{List, []}
-use Prim.Native.Nat.{ℕ, zero, suc, _+_, _≤_, _<_}
+use Prim.Native.Nat.{ℕ, _+_, _≤_, _<_}
 use native.Mathlib.Numerals.{add-one}
 use native.Mathlib.Omega.{arith}
-use lib.ListN.{length, drop}
+use lib.ListN.{length}
 use Rattle.std.proofs.shelf.Tests.{cases-lt}
 use Rattle.model.specs.Rows.{rows}
-use Rattle.model.specs.Walk.{step, rest}
+use Rattle.model.specs.Walk.{rest}
 use Rattle.model.proofs.Rows.{rows-left}
 use Rattle.pieces.specs.declared.Spot.{Spot}
 use Rattle.layout.specs.declared.Row.{Row}

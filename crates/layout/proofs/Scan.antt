@@ -1,16 +1,15 @@
 -- Looking for the end of a row, letter by letter: xs is what is left where the row begins, and `now` what is left after i letters of it.
 use mathlib.Core.Path.{_≡_, refl, sym, ap, _∙_}
-use mathlib.Core.Bool.{Bool, true, false}
+use mathlib.Core.Bool.{false}
 use mathlib.Core.List.{List, [], _∷_}
-use Prim.Native.Nat.{ℕ, zero, suc, _+_, _-_, _≤_, _<_}
-use native.Mathlib.Numerals.{add-one}
+use Prim.Native.Nat.{ℕ, suc, _+_, _-_, _≤_, _<_}
 use native.Mathlib.Omega.{arith}
-use lib.Dec.{leb, eqb}
+use lib.Dec.{eqb}
 use lib.ListN.{length, drop}
 use Rattle.std.proofs.shelf.Tests.{le-leb, lt-leb, eq-eqb, ne-eqb}
 use Rattle.std.proofs.shelf.Lists.{length-drop, drop-drop}
 use Rattle.model.specs.Paper.{pick, Cell}
-use Rattle.model.specs.Rows.{Cut, cut, cut-after, first-end, last-space}
+use Rattle.model.specs.Rows.{cut, cut-after, first-end, last-space}
 
 -- no end of a paragraph among the i letters, and `found` is the last space among them, by one more than its place; what is to come decides
 pub record Scan (w : ℕ) (xs now : List Cell) (i found : ℕ) : Type 0 where
@@ -19,9 +18,6 @@ pub record Scan (w : ℕ) (xs now : List Cell) (i found : ℕ) : Type 0 where
   pub rest : drop i xs ≡ now
   pub end : first-end xs (suc w) 0 ≡ first-end now (suc w - i) i
   pub space : last-space xs (suc w) 0 0 ≡ last-space now (suc w - i) i found
-
-pub scan-start : (w : ℕ) (xs : List Cell) → Scan w xs xs 0 0
-scan-start w xs = let e : suc w - 0 ≡ suc w = omega arith in record { fits = omega arith; within = omega arith; rest = refl; end = rw e; space = rw e }
 
 first-end-at : (x : Cell) (xs : List Cell) (n m i : ℕ) → n ≡ suc m → first-end (x ∷ xs) n i ≡ pick (eqb (x .letter) 10) (suc i) (first-end xs m (suc i))
 unfolding first-end

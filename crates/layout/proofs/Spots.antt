@@ -1,16 +1,15 @@
 -- A walk over what is left of a text, from spot to spot.
 use mathlib.Core.Path.{_≡_, refl, sym, ap, _∙_}
-use mathlib.Core.Bool.{Bool, true, false}
+use mathlib.Core.Bool.{true, false}
 use mathlib.Core.List.{List, [], _∷_}
 use Prim.Native.Nat.{ℕ, zero, suc, _+_, _*_, _≤_, _<_}
-use native.Mathlib.Nat.{add-zero}
 use native.Mathlib.Omega.{arith}
 use lib.ListN.{length, getD, drop}
 use Rattle.std.proofs.shelf.Lists.{drop-all, length-drop}
 use Rattle.model.specs.Paper.{pick, Cell, seen, view}
 use Rattle.model.proofs.Rows.{by-test}
-use Rattle.pieces.specs.Store.{used, cells-of, before, no-cell, Order, Store}
-use Rattle.pieces.proofs.Texts.{before-more, length-text, drop-text-more, drop-text-next, text-at}
+use Rattle.pieces.specs.Store.{used, cells-of, before, no-cell, Order}
+use Rattle.pieces.proofs.Texts.{length-text, drop-text-more, drop-text-next, text-at}
 use Rattle.layout.specs.Spots.{left}
 
 view-none : (way : ℕ) → view way [] ≡ []

@@ -1,5 +1,5 @@
 -- Bytes that are written piece by piece: what was to be written from a place on, and what is still to be written from a later place on.
-use mathlib.Core.Path.{_≡_, refl, sym, ap, subst, _∙_}
+use mathlib.Core.Path.{_≡_, refl, ap, subst, _∙_}
 use mathlib.Core.List.{List, [], _∷_, _++_}
 use Prim.Native.Nat.{ℕ, suc, _+_, _-_, _*_, _≤_, _<_}
 use native.Mathlib.Nat.{add-zero}
@@ -19,9 +19,6 @@ use Rattle.codec.proofs.Writes.{over-more, length-cells-bytes, rows-bytes-fit, 
 pub record Written (out : List ℕ) (at : ℕ) (bs : List ℕ) (out′ : List ℕ) (at′ : ℕ) (bs′ : List ℕ) : Type 0 where
   pub bytes : over out′ at′ bs′ ≡ over out at bs
   pub place : at′ + length bs′ ≡ at + length bs
-
-pub written-start : (out : List ℕ) (at : ℕ) (bs : List ℕ) → Written out at bs out at bs
-written-start out at bs = record { bytes = refl; place = refl }
 
 pub written-both : {o : List ℕ} {a : ℕ} {b o′ : List ℕ} {a′ : ℕ} {b′ o″ : List ℕ} {a″ : ℕ} {b″ : List ℕ}
     → Written o a b o′ a′ b′ → Written o′ a′ b′ o″ a″ b″ → Written o a b o″ a″ b″
@@ -60,9 +57,6 @@ pub record Cells-written (out : List ℕ) (at n : ℕ) (xs : List Cell) (out′ 
   pub written : Written out at (cells-bytes (take n xs)) out′ at′ (cells-bytes (take m ys))
   pub enough : m ≤ length ys
 
-pub cells-start : (out : List ℕ) (at n : ℕ) (xs : List Cell) → n ≤ length xs → Cells-written out at n xs out at n xs
-cells-start out at n xs h = record { written = written-start out at (cells-bytes (take n xs)); enough = h }
-
 pub cells-both : {o : List ℕ} {a n : ℕ} {xs : List Cell} {o′ : List ℕ} {a′ m : ℕ} {ys : List Cell} {o″ : List ℕ} {a″ l : ℕ} {zs : List Cell}
     → Cells-written o a n xs o′ a′ m ys → Cells-written o′ a′ m ys o″ a″ l zs → Cells-written o a n xs o″ a″ l zs
 cells-both f g = record { written = written-both (f .written) (g .written); enough = g .enough }
@@ -88,8 +82,11 @@ module _ (o : List ℕ) (a n : ℕ) (xs : List Cell) (o′ : List ℕ) (a′ m :
       let k : m ≡ suc (m - 1) = omega arith in
       let t = h .enough in
       let u = ap length e in
-      record { written = written-both (h .written) (written-more o′ a′ (cells-bytes (take m ys)) (cells-bytes (x ∷ [])) (cells-bytes (take (m - 1) zs)) o″ a″
-          (cells-bytes-more x zs ys m (m - 1) e k) f (omega arith) l); enough = omega arith }
+      record {
+        written = written-both (h .written) (written-more o′ a′ (cells-bytes (take m ys)) (cells-bytes (x ∷ [])) (cells-bytes (take (m - 1) zs)) o″ a″
+            (cells-bytes-more x zs ys m (m - 1) e k) f (omega arith) l);
+        enough = omega arith;
+      }
 
   pub cells-done : m ≡ 0 → n ≤ length xs → (o′ ≡ over o a (cells-bytes (take n xs))) × (a′ ≡ a + 16 * n)
   cells-done z l =
@@ -108,9 +105,6 @@ rows-room w n xs wide h =
     let l = length-take n (rows w xs) in
     let f = rows-bytes-fit 256 (take n (rows w xs)) (λ i k. rw (getD-take n (rows w xs) i [] (omega arith)) (let r = rows-fit w i xs wide (omega arith) in omega arith)) in
     omega arith
-
-pub rows-start : (w : ℕ) (out : List ℕ) (at n : ℕ) (xs : List Cell) → n ≤ length (rows w xs) → Rows-written w out at n xs out at n xs
-rows-start w out at n xs h = record { written = written-start out at (rows-bytes (take n (rows w xs))); enough = h }
 
 length-word : (n : ℕ) → length (word-bytes n) ≡ 4
 unfolding word-bytes
@@ -155,10 +149,10 @@ module _ (w : ℕ) (wide : 0 < w) (o : List ℕ) (a n : ℕ) (xs : List Cell) (o
       let t = h .enough in
       let tail : List ℕ = rows-bytes (take l (rows w zs)) in
       let first : Written o′ a′ (rows-bytes (take m (rows w ys))) o₁ a₁ (cells-bytes (take long ys) ++ tail) =
-          written-more o′ a′ (rows-bytes (take m (rows w ys))) (word-bytes long) (cells-bytes (take long ys) ++ tail) o₁ a₁ (rw (f, g) row-bytes) w1 (omega arith) l1
+      written-more o′ a′ (rows-bytes (take m (rows w ys))) (word-bytes long) (cells-bytes (take long ys) ++ tail) o₁ a₁ (rw (f, g) row-bytes) w1 (omega arith) l1
       in
       let second : Written o₁ a₁ (cells-bytes (take long ys) ++ tail) o₂ a₂ tail =
-          written-more o₁ a₁ (cells-bytes (take long ys) ++ tail) (cells-bytes (take long ys)) tail o₂ a₂ refl w2 (omega arith) l2
+      written-more o₁ a₁ (cells-bytes (take long ys) ++ tail) (cells-bytes (take long ys)) tail o₂ a₂ refl w2 (omega arith) l2
       in
       record { written = written-both (h .written) (written-both first second); enough = rw f (omega arith) }
 

@@ -17,6 +17,7 @@ use model::Cell;
 use pieces::Spot;
 
 const END: u32 = 10;
+
 const SPACE: u32 = 32;
 
 // A row: the spot from which it goes, how many cells it has, and the spot from which the next row goes.
@@ -90,8 +91,15 @@ fn row_from(c: &[u32], p: &[u32], s: usize, way: u32, width: u32, from: Spot) ->
                     }
                     long += 1;
                     if long > width {
-                        let next = Spot { piece: k, offset: j };
-                        break 'row Some(space.unwrap_or(Row { from, long: width, next }));
+                        let next = Spot {
+                            piece: k,
+                            offset: j,
+                        };
+                        break 'row Some(space.unwrap_or(Row {
+                            from,
+                            long: width,
+                            next,
+                        }));
                     }
                 }
             }
@@ -110,7 +118,15 @@ fn row_from(c: &[u32], p: &[u32], s: usize, way: u32, width: u32, from: Spot) ->
 }
 
 // The spot after `n` rows, or none where there are fewer.
-fn pass_rows(c: &[u32], p: &[u32], s: usize, way: u32, width: u32, from: Spot, n: u32) -> Option<Spot>
+fn pass_rows(
+    c: &[u32],
+    p: &[u32],
+    s: usize,
+    way: u32,
+    width: u32,
+    from: Spot,
+    n: u32,
+) -> Option<Spot>
     requires store { ⌜ Store (now c) (now p) s ⌝ }
     requires way { ⌜ way < 3 ⌝ }
     requires least { ⌜ 1 ≤ width ⌝ }
@@ -126,7 +142,16 @@ fn pass_rows(c: &[u32], p: &[u32], s: usize, way: u32, width: u32, from: Spot, n
 }
 
 // Writes the first `n` cells that are seen from a spot on. The answer is the place after them.
-fn write_cells(c: &[u32], p: &[u32], s: usize, way: u32, from: Spot, n: u32, out: &mut [u8], at: usize) -> usize
+fn write_cells(
+    c: &[u32],
+    p: &[u32],
+    s: usize,
+    way: u32,
+    from: Spot,
+    n: u32,
+    out: &mut [u8],
+    at: usize,
+) -> usize
     requires store { ⌜ Store (now c) (now p) s ⌝ }
     requires way { ⌜ way < 3 ⌝ }
     requires from { ⌜ Inside (now p) s (from .piece) (from .offset) ⌝ }
@@ -155,7 +180,16 @@ fn write_cells(c: &[u32], p: &[u32], s: usize, way: u32, from: Spot, n: u32, out
 }
 
 // Writes `n` rows from a spot on as an answer, and says how many bytes it has.
-fn write_rows(c: &[u32], p: &[u32], s: usize, way: u32, width: u32, from: Spot, n: u32, out: &mut [u8]) -> usize
+fn write_rows(
+    c: &[u32],
+    p: &[u32],
+    s: usize,
+    way: u32,
+    width: u32,
+    from: Spot,
+    n: u32,
+    out: &mut [u8],
+) -> usize
     requires store { ⌜ Store (now c) (now p) s ⌝ }
     requires way { ⌜ way < 3 ⌝ }
     requires least { ⌜ 1 ≤ width ⌝ }
@@ -179,7 +213,16 @@ fn write_rows(c: &[u32], p: &[u32], s: usize, way: u32, width: u32, from: Spot, 
 }
 
 // Writes `n` rows from row number `first` on as an answer, and says how many bytes it has; or nothing, where these rows are not there.
-pub fn show(c: &[u32], p: &[u32], s: usize, way: u32, width: u32, first: u32, n: u32, out: &mut [u8]) -> Option<usize>
+pub fn show(
+    c: &[u32],
+    p: &[u32],
+    s: usize,
+    way: u32,
+    width: u32,
+    first: u32,
+    n: u32,
+    out: &mut [u8],
+) -> Option<usize>
     requires store { ⌜ Store (now c) (now p) s ⌝ }
     requires way { ⌜ way < 3 ⌝ }
     requires least { ⌜ 1 ≤ width ⌝ }

@@ -1,11 +1,11 @@
-use mathlib.Core.Path.{_≡_, sym, _∙_}
+use mathlib.Core.Path.{_≡_, sym}
 use mathlib.Core.Logic.{inl, inr}
-use Prim.Native.Nat.{_+_, _<_}
+use Prim.Native.Nat.{_<_}
 use native.Mathlib.Omega.{arith}
 use Rattle.model.specs.Values.{cell-of}
 use Rattle.pieces.specs.Store.{used}
 use Rattle.layout.proofs.Spots.{left-unseen, left-next}
-use Rattle.layout.proofs.Found.{Sought, sought-end, sought-more, sought-full, sought-same, sought-none, sought-all}
+use Rattle.layout.proofs.Found.{sought-end, sought-more, sought-full, sought-same, sought-none, sought-all}
 use Rattle.layout.proofs.row_from.Needs as need
 use Rattle.layout.proofs.row_from.Needs.{then-sees·else-x-eq-END·else-long-width, else-sees, then-x-eq-SPACE, else-x-eq-SPACE}
 

@@ -1,5 +1,5 @@
-use mathlib.Core.Path.{_≡_, sym, ap, subst, _∙_}
-use Prim.Native.Nat.{ℕ, suc, _+_, _-_, _≤_, _<_}
+use mathlib.Core.Path.{_≡_, sym, subst}
+use Prim.Native.Nat.{suc, _+_, _-_, _≤_}
 use native.Mathlib.Omega.{arith}
 use lib.ListN.{length, take}
 use Rattle.codec.specs.Bytes.{cells-bytes}
@@ -31,10 +31,13 @@ write-cells-at-requires c κs =
     let l = f .long in
     let t = sym (f .next .from) in
     let a : c .unwrap-row .result .long ≤ length (ahead (c .args .c .now) (c .args .p .now) (c .args .s) (c .args .way) (c .loop-i .spot)) = omega arith in
-    record { store = c .pre .store; way = c .pre .way;
-        from = subst (λ (u : Spot). Inside (c .args .p .now) (c .args .s) (u .piece) (u .offset)) t (c .loop-i .inv .1);
-        enough = subst (λ (u : Spot). c .unwrap-row .result .long ≤ length (ahead (c .args .c .now) (c .args .p .now) (c .args .s) (c .args .way) u)) t a;
-        room = omega arith }
+    record {
+      store = c .pre .store;
+      way = c .pre .way;
+      from = subst (λ (u : Spot). Inside (c .args .p .now) (c .args .s) (u .piece) (u .offset)) t (c .loop-i .inv .1);
+      enough = subst (λ (u : Spot). c .unwrap-row .result .long ≤ length (ahead (c .args .c .now) (c .args .p .now) (c .args .s) (c .args .way) u)) t a;
+      room = omega arith;
+    }
 
 pub loop-i-again : need.loop-i-again
 loop-i-again c =
@@ -43,12 +46,14 @@ loop-i-again c =
     let f = found-row _ _ _ _ _ _ _ _ (c .row-from .ensures) (c .unwrap-row .ensures) in
     let l = f .long in
     let b : c .write-cells-at .last .out ≡ over (c .number-at .last .out) (c .number-at .result)
-        (cells-bytes (take (c .unwrap-row .result .long) (ahead (c .args .c .now) (c .args .p .now) (c .args .s) (c .args .way) (c .loop-i .spot)))) =
-        subst (λ (u : Spot). c .write-cells-at .last .out ≡ over (c .number-at .last .out) (c .number-at .result)
-        (cells-bytes (take (c .unwrap-row .result .long) (ahead (c .args .c .now) (c .args .p .now) (c .args .s) (c .args .way) u)))) (f .next .from) (c .write-cells-at .ensures .bytes)
-    in
-    (rows-more _ (c .pre .least) _ _ _ _ _ _ _ _ (c .loop-i .inv .0) _ e _ (f .next .rest) _ l _ _ _ _
-    (c .number-at .ensures .bytes) (c .number-at .ensures .next) (omega arith) b (c .write-cells-at .ensures .next) (omega arith), f .next .spot)
+    (cells-bytes (take (c .unwrap-row .result .long) (ahead (c .args .c .now) (c .args .p .now) (c .args .s) (c .args .way) (c .loop-i .spot)))) =
+    subst (λ (u : Spot). c .write-cells-at .last .out ≡ over (c .number-at .last .out) (c .number-at .result)
+    (cells-bytes (take (c .unwrap-row .result .long) (ahead (c .args .c .now) (c .args .p .now) (c .args .s) (c .args .way) u)))) (f .next .from) (c .write-cells-at .ensures .bytes)
+    in (
+      rows-more _ (c .pre .least) _ _ _ _ _ _ _ _ (c .loop-i .inv .0) _ e _ (f .next .rest) _ l _ _ _ _
+          (c .number-at .ensures .bytes) (c .number-at .ensures .next) (omega arith) b (c .write-cells-at .ensures .next) (omega arith),
+      f .next .spot,
+    )
 
 pub returns : need.returns
 returns c =
