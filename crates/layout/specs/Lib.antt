@@ -1,0 +1,3 @@
+pub mod Spots
+pub mod Found
+pub mod Shown
