@@ -7,9 +7,11 @@ pub loop-i-holds : need.loop-i-holds
 loop-i-holds c = (same-none (c .args .c .now) (c .args .p .now) (c .args .s) (c .pre .order), c .pre .first, c .pre .packed)
 
 pub loop-i-again : need.loop-i-again
-loop-i-again c =
-    (same-both (c .args .c .now) (c .args .p .now) (c .loop-i .c) (c .loop-i .p) (c .pour-i .last .c) (c .pour-i .last .p) (c .args .s) (c .loop-i .inv .0) (c .pour-i .ensures .same),
-     c .pour-i .ensures .first, c .pour-i .ensures .packed)
+loop-i-again c = (
+  same-both (c .args .c .now) (c .args .p .now) (c .loop-i .c) (c .loop-i .p) (c .pour-i .last .c) (c .pour-i .last .p) (c .args .s) (c .loop-i .inv .0) (c .pour-i .ensures .same),
+  c .pour-i .ensures .first,
+  c .pour-i .ensures .packed,
+)
 
 pub returns-else-used-gt0 : need.returns-else-used-gt0
 returns-else-used-gt0 c =
