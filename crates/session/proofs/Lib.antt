@@ -1,7 +1,9 @@
 mod Acting
 mod Heads
 mod Keeping
+mod Looking
 mod Opening
 mod Putting
 mod Ranges
+mod Serving
 mod Writing

@@ -19,7 +19,7 @@ use Rattle.session.specs.Acts.{Wrote, desk-of, Acted, Noted, allows, with-cell
 use Rattle.session.proofs.Acting.{turned-first, turned-last, turned-not, refuses, wrote-it}
 use Rattle.session.proofs.Writing.{inserted-length, noted-too}
 
-both-true : (a b : Bool) → (a && b) ≡ true → (a ≡ true) × (b ≡ true)
+pub both-true : (a b : Bool) → (a && b) ≡ true → (a ≡ true) × (b ≡ true)
 both-true true b h = (refl, h)
 both-true false b h = let z : _≡_ {A = Bool} false true = h in (z, cc)
 

@@ -7,6 +7,7 @@ use lib.Dec.{leb, ltb}
 use lib.ListN.{length, getD, drop}
 use Rattle.model.specs.Paper.{Cell, Paper}
 use Rattle.model.specs.Calls.{Call, Answer, Desk, turned, after, answer}
+use Rattle.codec.specs.Bytes.{answer-bytes}
 use Rattle.changes.specs.Row.{changes-of}
 use Rattle.session.specs.Memory.{cells-words, pieces-words, limits-of, tables as tables-of, paper-of, Held}
 
@@ -45,3 +46,9 @@ with-cells p xs = record { cells = xs; changes = p .changes }
 -- the limits allow one change more, and so many cells
 abbrev pub allows : List ℕ → ℕ → Bool
 allows ps cells = leb cells (getD ps 0 0) && ltb (getD ps 3 0) (getD ps 1 0)
+
+-- a call was done or turned away, and its answer stands in the first r bytes of out; the bytes after them are as they were
+pub record Said (cs ps : List ℕ) (c : Call) (cs′ ps′ out out′ : List ℕ) (r : ℕ) : Type 0 where
+  pub acted : Acted cs ps c cs′ ps′ (answer (limits-of ps) (desk-of cs ps) c)
+  pub bytes : out′ ≡ answer-bytes (answer (limits-of ps) (desk-of cs ps) c) ++ drop r out
+  pub long : r ≡ length (answer-bytes (answer (limits-of ps) (desk-of cs ps) c))

@@ -3,8 +3,8 @@
 ghost use Prim.Native.Nat.{ℕ, _*_, _+_, _<_, _≤_};
 ghost use Rattle.model.specs.Paper.{new-cells};
 ghost use Rattle.pieces.specs.Store.{Table, before};
-ghost use Rattle.session.specs.Acts.{Acted, Noted, Wrote, allows, with-cells};
-ghost use Rattle.model.specs.Calls.{good-fields, put as puts};
+ghost use Rattle.session.specs.Acts.{Acted, Noted, Said, Wrote, allows, with-cells};
+ghost use Rattle.model.specs.Calls.{count as counts, good-fields, put as puts, show as shows};
 ghost use Rattle.codec.specs.Values.{told};
 ghost use Rattle.session.specs.Contract.{Opening};
 ghost use Rattle.session.specs.Keeping.{Any-chain, Main-promise};
@@ -43,6 +43,15 @@ pub struct Sizes {
 pub struct Refusal {
     pub number: u32,
     pub place: u32,
+}
+
+// Which rows are shown: in which way to look, how wide, from which on, how many.
+#[derive(Clone, Copy)]
+struct Rows {
+    way: u32,
+    width: u32,
+    first: u32,
+    count: u32,
 }
 
 // The sizes that the limits ask for, whether or not a desk can be opened with them.
@@ -117,6 +126,32 @@ fn put(cells: &mut [u32], pieces: &mut [u32], author: u32, place: u32, style: u3
     insert(cells, pieces, at, letters, style, number);
     add_change(pieces, author);
     Answer::Number(number)
+}
+
+// How many letters are seen in a way to look.
+fn count(cells: &[u32], pieces: &[u32], way: u32) -> Answer
+    requires held { ⌜ Held (now cells) (now pieces) ⌝ }
+    requires good { ⌜ good-fields (counts way) ≡ true ⌝ }
+    ensures { λ r. ⌜ Acted (now (cells .entry)) (now (pieces .entry)) (counts way) (now (cells .entry)) (now (pieces .entry)) (told r) ⌝ }
+{
+    let slots = pieces::slots_for(pieces[0] as usize);
+    let from = HEAD + 2 * pieces[1] as usize;
+    Answer::Number(layout::count(cells, &pieces[from..], slots, way) as u32)
+}
+
+// Rows of a width in a way to look: the whole answer is written, and its length is returned.
+fn show(cells: &[u32], pieces: &[u32], rows: Rows, answer: &mut [u8]) -> usize
+    requires held { ⌜ Held (now cells) (now pieces) ⌝ }
+    requires good { ⌜ good-fields (shows (rows .way) (rows .width) (rows .first) (rows .count)) ≡ true ⌝ }
+    requires room { ⌜ 262405 ≤ length (now answer) ⌝ }
+    ensures { λ r. ⌜ Said (now (cells .entry)) (now (pieces .entry)) (shows (rows .way) (rows .width) (rows .first) (rows .count)) (now (cells .entry)) (now (pieces .entry)) (now (answer .entry)) (now (answer .exit)) r ⌝ }
+{
+    let slots = pieces::slots_for(pieces[0] as usize);
+    let from = HEAD + 2 * pieces[1] as usize;
+    match layout::show(cells, &pieces[from..], slots, rows.way, rows.width, rows.first, rows.count, answer) {
+        Some(long) => long,
+        None => codec::write(Answer::Refused(8, 2), answer),
+    }
 }
 
 // How many cells the paper has.
