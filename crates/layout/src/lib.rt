@@ -1,21 +1,22 @@
 // Ways to look at a text that is kept in pieces: which cells are seen, how many, and how they stand in rows of a width.
 ghost use mathlib.Core.Path.{_≡_};
-ghost use Prim.Native.Nat.{ℕ, _+_, _*_, _/_, _%_, _^_, _<_, _≤_};
 ghost use mathlib.Core.List.{_++_};
+ghost use Prim.Native.Nat.{ℕ, _+_, _*_, _/_, _%_, _^_, _<_, _≤_};
 ghost use lib.ListN.{length, take, drop};
 ghost use Rattle.model.specs.Paper.{pick, seen, view};
 ghost use Rattle.model.specs.Rows.{rows};
 ghost use Rattle.model.specs.Calls.{lines};
 ghost use Rattle.model.specs.Values.{cell-of};
 ghost use Rattle.pieces.specs.Store.{cells-of, Store};
-ghost use Rattle.layout.specs.Spots.{Inside};
 ghost use Rattle.codec.specs.Bytes.{cells-bytes, answer-bytes};
 ghost use Rattle.codec.specs.Over.{over};
+ghost use Rattle.layout.specs.Spots.{Inside};
 ghost use Rattle.layout.specs.Found.{Row-is, Spot-is, ahead};
 ghost use Rattle.layout.specs.Shown.{Shown};
 use model::Cell;
 use pieces::Spot;
 
+// The letter that ends a paragraph.
 const END: u32 = 10;
 
 const SPACE: u32 = 32;
