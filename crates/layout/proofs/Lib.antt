@@ -1,7 +1,7 @@
-pub mod Bits
+mod Bits
 pub mod Spots
-pub mod Scan
-pub mod Found
-pub mod Passed
-pub mod Written
-pub mod Shown
+mod Scan
+mod Found
+mod Passed
+mod Written
+mod Shown

@@ -25,10 +25,7 @@ module _ (c p : List ℕ) (s way w : ℕ) (t : Spot) (i : ℕ) (u : Spot) (wide 
       let l = h .left in
       let n : length (rest w i (ahead c p s way t)) ≡ 0 = ap length (sym l ∙ e) in
       let a = rows-left w i (ahead c p s way t) wide .0 in
-      not-more (λ k. let z = a k in omega arith)
-    where
-      not-more : (i < length (rows w (ahead c p s way t)) → ⊥) → length (rows w (ahead c p s way t)) ≤ i
-      not-more f = elim (cases-lt i (length (rows w (ahead c p s way t)))) [ inl k ↦ absurd (f k) | inr k ↦ k ]
+      elim (cases-lt i (length (rows w (ahead c p s way t)))) [ inl k ↦ absurd (let z = a k in omega arith) | inr k ↦ k ]
 
   pub pass-more : (r : Row) → Found c p s way w u r → Passed c p s way w t (i + 1) (r .next)
   unfolding rest

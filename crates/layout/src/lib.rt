@@ -1,21 +1,22 @@
 // Ways to look at a text that is kept in pieces: which cells are seen, how many, and how they stand in rows of a width.
 ghost use mathlib.Core.Path.{_≡_};
-ghost use Prim.Native.Nat.{ℕ, _+_, _*_, _/_, _%_, _^_, _<_, _≤_};
 ghost use mathlib.Core.List.{_++_};
+ghost use Prim.Native.Nat.{ℕ, _+_, _*_, _/_, _%_, _^_, _<_, _≤_};
 ghost use lib.ListN.{length, take, drop};
 ghost use Rattle.model.specs.Paper.{pick, seen, view};
 ghost use Rattle.model.specs.Rows.{rows};
 ghost use Rattle.model.specs.Calls.{lines};
 ghost use Rattle.model.specs.Values.{cell-of};
 ghost use Rattle.pieces.specs.Store.{cells-of, Store};
-ghost use Rattle.layout.specs.Spots.{Inside};
 ghost use Rattle.codec.specs.Bytes.{cells-bytes, answer-bytes};
 ghost use Rattle.codec.specs.Over.{over};
+ghost use Rattle.layout.specs.Spots.{Inside};
 ghost use Rattle.layout.specs.Found.{Row-is, Spot-is, ahead};
 ghost use Rattle.layout.specs.Shown.{Shown};
 use model::Cell;
 use pieces::Spot;
 
+// The letter that ends a paragraph.
 const END: u32 = 10;
 
 const SPACE: u32 = 32;
@@ -50,7 +51,8 @@ fn sees(way: u32, x: Cell) -> bool
 pub fn count(c: &[u32], p: &[u32], s: usize, way: u32) -> usize
     requires store { ⌜ Store (now c) (now p) s ⌝ }
     requires way { ⌜ way < 3 ⌝ }
-    ensures { λ r. ⌜ r ≡ length (view way (cells-of (now (c .entry)) (now (p .entry)) s)) ⌝ }
+    ensures cells { λ r. ⌜ r ≡ length (view way (cells-of (now (c .entry)) (now (p .entry)) s)) ⌝ }
+    ensures few { λ r. ⌜ r ≤ 2097152 ⌝ }
 {
     let mut n = 0;
     for k in 0..s {
@@ -63,7 +65,8 @@ pub fn count(c: &[u32], p: &[u32], s: usize, way: u32) -> usize
     n
 }
 
-// The row that goes from a spot, or none where no cell is left. It goes to the end of a paragraph or to the last space among its first `width` + 1 cells.
+// The row that goes from a spot, or none where no cell is left. Of its first `width` + 1 cells it goes to the first end of a paragraph; else, where
+// there are not so many, it has them all; else it goes to the last space, and where there is none it has `width` cells.
 fn row_from(c: &[u32], p: &[u32], s: usize, way: u32, width: u32, from: Spot) -> Option<Row>
     requires store { ⌜ Store (now c) (now p) s ⌝ }
     requires way { ⌜ way < 3 ⌝ }
@@ -72,6 +75,7 @@ fn row_from(c: &[u32], p: &[u32], s: usize, way: u32, width: u32, from: Spot) ->
     ensures { λ r. ⌜ Row-is (now (c .entry)) (now (p .entry)) s way width from r ⌝ }
 {
     let mut long = 0;
+    // the row as it is if it goes to the last space so far
     let mut space = None;
     let mut start = from.offset;
     'row: {

@@ -37,4 +37,5 @@ returns c =
     let h : c .loop-k .k ≡ c .args .s = omega arith in
     let e = ap length (left-end (c .args .c .now) (c .args .p .now) (c .args .s) (c .args .way) (c .loop-k .k) 0 h) in
     let a = ap length (left-all (c .args .c .now) (c .args .p .now) (c .args .s) (c .args .way)) in
-    omega arith
+    let f = left-few (c .args .c .now) (c .args .p .now) (c .args .s) (c .args .way) 0 0 (c .pre .store .table .order) in
+    record { cells = omega arith; few = omega arith }
