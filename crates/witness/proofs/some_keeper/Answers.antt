@@ -1,0 +1,4 @@
+use Rattle.witness.proofs.some_keeper.Needs as need
+
+pub returns : need.returns
+returns c = ?
