@@ -1,2 +1,5 @@
 mod Built
 mod Counts
+mod Small
+mod Written
+mod Canonical
