@@ -46,6 +46,9 @@ length-row c xs h =
     let d = length-replicate {A = ℕ} (2 * c - 2 * length xs) 0 in
     omega arith
 
+pub length-undo-for : (u : ℕ) → length (undo-for u) ≡ undo-words u
+length-undo-for u = length-replicate {A = ℕ} (undo-words u) 0
+
 module _ (n c u : ℕ) (p : Paper) (within : Within n c u p) where
   pub length-cells-for : length (cells-for n p) ≡ cells-words n
   length-cells-for =
@@ -99,13 +102,13 @@ module _ (n c u : ℕ) (p : Paper) (within : Within n c u p) where
   fit-for small = (
     small-append (cells-written (p .cells)) (replicate (cells-words n - 4 * length (p .cells)) 0) (cells-small (p .cells) (small .cells)) (small-zeros _),
     small-append (n ∷ (c ∷ (u ∷ (length (p .changes) ∷ replicate 12 0)))) (row-for c (p .changes) ++ tables-for (length (p .cells)) (slots-for n))
-    (small-cons n (c ∷ (u ∷ (length (p .changes) ∷ replicate 12 0))) (omega arith)
-    (small-cons c (u ∷ (length (p .changes) ∷ replicate 12 0)) (omega arith)
-    (small-cons u (length (p .changes) ∷ replicate 12 0) (omega arith)
-    (small-cons (length (p .changes)) (replicate 12 0) (omega arith) (small-zeros 12)))))
-    (small-append (row-for c (p .changes)) (tables-for (length (p .cells)) (slots-for n))
-    (small-append (changes-written (p .changes)) (replicate (2 * c - 2 * length (p .changes)) 0) (changes-small (p .changes) (small .changes)) (small-zeros _))
-    (tables-fit (length (p .cells)) (slots-for n) (omega arith))),
+        (small-cons n (c ∷ (u ∷ (length (p .changes) ∷ replicate 12 0))) (omega arith)
+        (small-cons c (u ∷ (length (p .changes) ∷ replicate 12 0)) (omega arith)
+        (small-cons u (length (p .changes) ∷ replicate 12 0) (omega arith)
+        (small-cons (length (p .changes)) (replicate 12 0) (omega arith) (small-zeros 12)))))
+        (small-append (row-for c (p .changes)) (tables-for (length (p .cells)) (slots-for n))
+        (small-append (changes-written (p .changes)) (replicate (2 * c - 2 * length (p .changes)) 0) (changes-small (p .changes) (small .changes)) (small-zeros _))
+        (tables-fit (length (p .cells)) (slots-for n) (omega arith))),
     small-zeros (undo-words u),
   )
 
@@ -123,5 +126,5 @@ opened-pieces-are n c u few =
     let e : 2 * c - 2 * 0 ≡ 2 * c = omega arith in
     let a : replicate {A = ℕ} 13 0 ++ replicate (2 * c - 2 * 0) 0 ≡ replicate (13 + 2 * c) 0 =
     ap (λ (k : ℕ). replicate {A = ℕ} 13 0 ++ replicate k 0) e ∙ replicate-append-replicate 13 (2 * c) 0 in
-    let t : tables-for 0 (slots-for n) ≡ _ = tables-none (slots-for n) (omega arith) in
+    let t = tables-none (slots-for n) (omega arith) in
     ap₂ (λ (xs ys : List ℕ). n ∷ (c ∷ (u ∷ (xs ++ ys)))) a t

@@ -138,12 +138,12 @@ module _ (m s : ℕ) (most : s ≤ 2048) where
       elim (cases-lt i s) [
         | inl a ↦ rw (order-word i a) (omega arith)
         | inr a ↦ elim (cases-lt i 2048) [
-            | inl b ↦ rw (spare-word i a b) (omega arith)
-            | inr b ↦ elim (cases-lt i 6144) [
-                | inl d ↦ rw (tree-word i b d) (omega (arith, count-small m 11 (i - 2048)))
-                | inr d ↦ rw (getD-past (tables-for m s) i 0 (omega arith)) (omega arith)
-              ]
+          | inl b ↦ rw (spare-word i a b) (omega arith)
+          | inr b ↦ elim (cases-lt i 6144) [
+            | inl d ↦ rw (tree-word i b d) (omega (arith, count-small m 11 (i - 2048)))
+            | inr d ↦ rw (getD-past (tables-for m s) i 0 (omega arith)) (omega arith)
           ]
+        ]
       ]
 
 -- with no cells: the order, and nothing
@@ -168,7 +168,7 @@ tables-none s most =
               let g = order-word 0 s most i a in
               omega arith
           | inr a ↦ elim (cases-lt i 2048) [
-              | inl b ↦ spare-word 0 s most i a b ∙ sym (zeros i a h)
-              | inr b ↦ tree-word 0 s most i b h ∙ count-none 11 (i - 2048) ∙ sym (zeros i a h)
-            ]
+            | inl b ↦ spare-word 0 s most i a b ∙ sym (zeros i a h)
+            | inr b ↦ tree-word 0 s most i b h ∙ count-none 11 (i - 2048) ∙ sym (zeros i a h)
+          ]
         ]

@@ -3,3 +3,4 @@ mod Counts
 mod Small
 mod Written
 mod Canonical
+mod Keeper
