@@ -1,20 +1,20 @@
 -- A canonical memory for every paper that fits the limits: its cells fill the pieces one after the other, piece k in slot k. It is sound, it stands
 -- for just that paper, all its words fit four bytes, and for the empty paper it is what opening leaves. Assumes nothing.
 use mathlib.Core.Path.{_≡_, refl, sym, ap, ap₂, _∙_}
-use mathlib.Core.List.{List, [], _∷_, _++_}
-use Prim.Native.Nat.{ℕ, zero, suc, _+_, _-_, _*_, _/_, _≤_, _<_}
+use mathlib.Core.List.{List, _∷_, _++_}
+use Prim.Native.Nat.{ℕ, _+_, _-_, _*_, _≤_}
 use native.Mathlib.Omega.{arith}
-use lib.ListN.{length, getD, drop, replicate}
-use Rattle.std.specs.shelf.Lists.{All}
+use borrow.Author.Needs.{needs}
+use lib.ListN.{length, drop, replicate}
 use Rattle.std.proofs.shelf.Lists.{append-assoc, drop-at, drop-drop, length-append, length-replicate, replicate-append-replicate}
 use Rattle.model.specs.Paper.{Cell, Change, Paper, cells-written, changes-written}
 use Rattle.model.specs.Calls.{new-desk}
 use Rattle.changes.specs.Row.{changes-of}
 use Rattle.pieces.specs.Store.{Store, cells-of}
-use Rattle.session.specs.Memory.{slots-for, cells-words, pieces-words, undo-words, tables, paper-of, Sound, opened-cells, opened-pieces, opened-undo}
+use Rattle.session.specs.Memory.{slots-for, cells-words, pieces-words, undo-words, tables, paper-of, Sound, opened-cells, opened-pieces}
 use Rattle.session.specs.Contract.{Fit}
 use Rattle.witness.proofs.Counts.{tables-for, length-tables, table-for, tables-fit, tables-none}
-use Rattle.witness.proofs.Small.{Small, Of-paper, small-cons, small-append, small-zeros, cells-small, changes-small}
+use Rattle.witness.proofs.Small.{Of-paper, small-cons, small-append, small-zeros, cells-small, changes-small}
 use Rattle.witness.proofs.Written.{length-cells-written, length-changes-written, changes-back, text-back}
 
 -- the row of changes, for as many as the limit allows
@@ -86,17 +86,9 @@ module _ (n c u : ℕ) (p : Paper) (within : Within n c u p) where
       let long-cells = length-cells-for in
       let long-pieces = length-pieces-for in
       let table = table-for (length (p .cells)) (slots-for n) (omega arith) (omega arith) (omega arith) in
-      record {
-        few-cells = within .few-cells;
-        few-changes = within .few-changes;
-        few-undos = within .few-undos;
-        cells-long = omega arith;
-        pieces-long = omega arith;
-        undo-long = omega arith;
-        store = record { room = omega arith; table = rw tables-are table };
-        cells-fit = rw cells-are (within .cells);
-        changes-fit = within .changes;
-      }
+      let store : Store (cells-for n p) (tables (pieces-for n c u p)) (slots-for n) = record { room = omega arith; table = rw tables-are table } in
+      let cells-fit : length (paper-of (cells-for n p) (pieces-for n c u p) .cells) ≤ n = rw cells-are (within .cells) in
+      search needs
 
   pub fit-for : Of-paper p → Fit (cells-for n p) (pieces-for n c u p) (undo-for u)
   fit-for small = (

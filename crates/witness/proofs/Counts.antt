@@ -1,8 +1,7 @@
 -- The tables of a store whose pieces are filled one after the other: piece k is slot k, and m cells fill the first pieces. Assumes nothing.
 use mathlib.Core.Path.{_≡_, refl, sym, ap, _∙_}
 use mathlib.Core.Logic.{inl, inr}
-use mathlib.Core.Bool.{Bool, true, false}
-use mathlib.Core.List.{List, [], _∷_, _++_}
+use mathlib.Core.List.{List, _++_}
 use Prim.Native.Nat.{ℕ, zero, suc, _+_, _-_, _*_, _^_, _≤_, _<_, min}
 use native.Mathlib.Omega.{arith}
 use lib.Dec.{ltb, leb}
@@ -13,9 +12,9 @@ use Rattle.std.proofs.shelf.Counted.{length-counting, getD-counting}
 use Rattle.std.proofs.shelf.Lists.{getD-drop, length-drop, length-append, length-replicate, getD-append-left, getD-append-right, getD-replicate, getD-past, ext-getD}
 use Rattle.std.proofs.shelf.Tests.{cases-lt, lt-ltb, le-ltb, le-leb, lt-leb}
 use Rattle.model.specs.Paper.{pick}
-use Rattle.tree.specs.Tree.{leftmost, Sums}
-use Rattle.tree.proofs.Node.{double, leftmost-le, leftmost-next}
-use Rattle.pieces.specs.Store.{used, slot, Order, Table}
+use Rattle.tree.specs.Tree.{leftmost}
+use Rattle.tree.proofs.Node.{double, leftmost-next}
+use Rattle.pieces.specs.Store.{used, Table}
 use Rattle.witness.proofs.Built.{built, length-built, getD-built}
 
 -- how many of m cells piece k has

@@ -2,23 +2,23 @@
 -- memory that it had. It meets the contracts from any sound memory, also from one that is not canonical. Assumes nothing.
 use mathlib.Core.Path.{_≡_, refl, sym, ap, subst, _∙_}
 use mathlib.Core.Bool.{Bool, true, false, _&&_}
-use mathlib.Core.List.{List, [], _∷_, _++_}
-use Prim.Native.Nat.{ℕ, zero, suc, _+_, _*_, _/_, _≤_, _<_}
+use mathlib.Core.List.{List, [], _++_}
+use Prim.Native.Nat.{ℕ, zero, suc, _+_, _<_}
 use native.Mathlib.Omega.{arith}
-use lib.Dec.{ltb, leb, eqb}
-use lib.ListN.{length, getD, take, drop, replicate}
+use lib.Dec.{leb, eqb}
+use lib.ListN.{length, getD, take, drop}
 use Rattle.std.proofs.shelf.Lists.{append-nil, drop-all, drop-at, take-at, getD-drop, getD-append-left}
 use Rattle.std.proofs.shelf.Tests.{and-parts, ltb-true, leb-true, eqb-true, ne-eqb}
 use Rattle.changes.proofs.Row.{length-changes}
 use Rattle.model.specs.Paper.{pick, Paper}
-use Rattle.model.specs.Calls.{Call, put, strikes, accepts, rejects, styles, undo, redo, show, find, count, change, save, Answer, Desk, Limits, call-number, good-letters, good-fields, good-call, turned-by, rewritten, writes, moved, fits, turned, after, told, answer, new-desk}
+use Rattle.model.specs.Calls.{Call, put, strikes, accepts, rejects, styles, undo, redo, show, find, count, change, save, Answer, Desk, Limits, call-number, good-call, turned-by, rewritten, writes, moved, fits, turned, after, told, answer}
 use Rattle.model.specs.Promise.{Good-limits, readable, all-below, field, Memory, Keeper}
-use Rattle.codec.specs.Bytes.{call-bytes, answer-bytes}
-use Rattle.codec.specs.Reading.{Reading, reading, call-is}
+use Rattle.codec.specs.Bytes.{answer-bytes}
+use Rattle.codec.specs.Reading.{Reading, call-is}
 use Rattle.codec.proofs.ReadsBack.{reads-back}
 use Rattle.session.specs.Memory.{cells-words, pieces-words, undo-words, limits-of, paper-of, tables, Sound, Stands, opened-undo}
-use Rattle.session.specs.Contract.{Does, Done, Called, Fit}
-use Rattle.session.specs.Keeping.{Holds, Opens, Calls, Meets, Some-keeper}
+use Rattle.session.specs.Contract.{Does, Fit}
+use Rattle.session.specs.Keeping.{Holds, Opens, Calls, Some-keeper}
 use Rattle.witness.proofs.Small.{Of-paper, put-small, row-small, text-small}
 use Rattle.witness.proofs.Canonical.{Within, cells-for, pieces-for, undo-for, length-cells-for, length-pieces-for, length-undo-for, paper-is, sound-for, fit-for, empty, opened-cells-are, opened-pieces-are}
 
@@ -169,9 +169,9 @@ module _ (m : Memory) (cs ps us : List ℕ) (holds : Holds m cs ps us) (sound : 
     within =
         let room = and-parts (leb (length (new .cells)) (getD ps 0 0)) (leb (length (new .changes)) (getD ps 1 0)) (shown .1) in
         record {
-          few-cells = sound .few-cells;
-          few-changes = sound .few-changes;
-          few-undos = sound .few-undos;
+          few-cells = omega arith;
+          few-changes = omega arith;
+          few-undos = omega arith;
           cells = leb-true (length (new .cells)) (getD ps 0 0) (room .0);
           changes = leb-true (length (new .changes)) (getD ps 1 0) (room .1);
         }
@@ -180,7 +180,6 @@ module _ (m : Memory) (cs ps us : List ℕ) (holds : Holds m cs ps us) (sound : 
     new-small =
         let fields = put-fields a i s ls readable-put in
         let long = length-changes (drop 16 ps) 0 (getD ps 3 0) in
-        let few = sound .changes-fit in
         put-small paper a i s ls (fields .2) (fields .0) (fields .1) (omega arith) small
 
     put-done : Calls cs ps us c (memory-for (limits-of ps) new) (says-in cs ps c)
