@@ -2,121 +2,134 @@
 -- for just that paper, all its words fit four bytes, and for the empty paper it is what opening leaves. Assumes nothing.
 use mathlib.Core.Path.{_≡_, refl, sym, ap, ap₂, _∙_}
 use mathlib.Core.List.{List, _∷_, _++_}
-use Prim.Native.Nat.{ℕ, _+_, _-_, _*_, _≤_}
+use Prim.Native.Nat.{ℕ, zero, suc, _+_, _-_, _*_, _≤_}
 use native.Mathlib.Omega.{arith}
 use borrow.Author.Needs.{needs}
 use lib.ListN.{length, drop, replicate}
 use Rattle.std.proofs.shelf.Lists.{append-assoc, drop-at, drop-drop, length-append, length-replicate, replicate-append-replicate}
 use Rattle.model.specs.Paper.{Cell, Change, Paper, cells-written, changes-written}
-use Rattle.model.specs.Calls.{new-desk}
+use Rattle.model.specs.Calls.{Limits, new-desk}
+use Rattle.model.specs.Promise.{Good-limits, Memory}
 use Rattle.changes.specs.Row.{changes-of}
 use Rattle.pieces.specs.Store.{Store, cells-of}
 use Rattle.session.specs.Memory.{slots-for, cells-words, pieces-words, undo-words, tables, paper-of, Sound, opened-cells, opened-pieces}
 use Rattle.session.specs.Contract.{Fit}
+use Rattle.session.specs.Keeping.{Holds}
 use Rattle.witness.proofs.Counts.{tables-for, length-tables, table-for, tables-fit, tables-none}
-use Rattle.witness.proofs.Small.{Of-paper, small-cons, small-append, small-zeros, cells-small, changes-small}
+use Rattle.witness.proofs.Small.{Small, Of-paper, small-append, small-zeros, cells-small, changes-small}
 use Rattle.witness.proofs.Written.{length-cells-written, length-changes-written, changes-back, text-back}
 
--- the row of changes, for as many as the limit allows
-abbrev row-for : ℕ → List Change → List ℕ
-row-for c xs = changes-written xs ++ replicate (2 * c - 2 * length xs) 0
+-- each slice, part by part
+abbrev cells-left : Limits → Paper → List ℕ
+cells-left l p = replicate (cells-words (l .cells) - 4 * length (p .cells)) 0
 
-abbrev pub cells-for : ℕ → Paper → List ℕ
-cells-for n p = cells-written (p .cells) ++ replicate (cells-words n - 4 * length (p .cells)) 0
+abbrev changes-left : Limits → Paper → List ℕ
+changes-left l p = replicate (2 * l .changes - 2 * length (p .changes)) 0
 
-abbrev pub pieces-for : ℕ → ℕ → ℕ → Paper → List ℕ
-pieces-for n c u p =
-    n ∷ (c ∷ (u ∷ (length (p .changes) ∷ (replicate 12 0 ++ (row-for c (p .changes) ++ tables-for (length (p .cells)) (slots-for n))))))
+abbrev head-for : Limits → Paper → List ℕ
+head-for l p = l .cells ∷ (l .changes ∷ (l .undos ∷ (length (p .changes) ∷ replicate 12 0)))
 
-abbrev pub undo-for : ℕ → List ℕ
-undo-for u = replicate (undo-words u) 0
+abbrev row-for : Limits → Paper → List ℕ
+row-for l p = changes-written (p .changes) ++ changes-left l p
 
--- limits that a desk can have, and a paper that is within them
-pub record Within (n c u : ℕ) (p : Paper) : Type 0 where
-  pub few-cells : n ≤ 1000000
-  pub few-changes : c ≤ 65536
-  pub few-undos : u ≤ 1000000
-  pub cells : length (p .cells) ≤ n
-  pub changes : length (p .changes) ≤ c
+abbrev store-for : Limits → Paper → List ℕ
+store-for l p = tables-for (length (p .cells)) (slots-for (l .cells))
 
-length-row : (c : ℕ) (xs : List Change) → length xs ≤ c → length (row-for c xs) ≡ 2 * c
-length-row c xs h =
-    let a = length-append (changes-written xs) (replicate (2 * c - 2 * length xs) 0) in
-    let b = length-changes-written xs in
-    let d = length-replicate {A = ℕ} (2 * c - 2 * length xs) 0 in
-    omega arith
+abbrev pub cells-for : Limits → Paper → List ℕ
+cells-for l p = cells-written (p .cells) ++ cells-left l p
 
-pub length-undo-for : (u : ℕ) → length (undo-for u) ≡ undo-words u
-length-undo-for u = length-replicate {A = ℕ} (undo-words u) 0
+abbrev pub pieces-for : Limits → Paper → List ℕ
+pieces-for l p = head-for l p ++ (row-for l p ++ store-for l p)
 
-module _ (n c u : ℕ) (p : Paper) (within : Within n c u p) where
-  pub length-cells-for : length (cells-for n p) ≡ cells-words n
+abbrev pub undo-for : Limits → List ℕ
+undo-for l = replicate (undo-words (l .undos)) 0
+
+abbrev pub memory-for : Limits → Paper → Memory
+memory-for l p = record { words = pieces-for l p ++ (cells-for l p ++ undo-for l) }
+
+-- a paper within limits that a desk can have
+pub record Within (l : Limits) (p : Paper) : Type 0 where
+  pub good : Good-limits l
+  pub cells : length (p .cells) ≤ l .cells
+  pub changes : length (p .changes) ≤ l .changes
+
+module _ (l : Limits) (p : Paper) (within : Within l p) where
+  length-row : length (row-for l p) ≡ 2 * l .changes
+  length-row =
+      let a = length-append (changes-written (p .changes)) (changes-left l p) in
+      let b = length-changes-written (p .changes) in
+      let c = length-replicate {A = ℕ} (2 * l .changes - 2 * length (p .changes)) 0 in
+      omega (arith, within .changes)
+
+  length-cells-for : length (cells-for l p) ≡ cells-words (l .cells)
   length-cells-for =
-      let a = length-append (cells-written (p .cells)) (replicate (cells-words n - 4 * length (p .cells)) 0) in
+      let a = length-append (cells-written (p .cells)) (cells-left l p) in
       let b = length-cells-written (p .cells) in
-      let d = length-replicate {A = ℕ} (cells-words n - 4 * length (p .cells)) 0 in
-      omega arith
+      let c = length-replicate {A = ℕ} (cells-words (l .cells) - 4 * length (p .cells)) 0 in
+      omega (arith, within .cells)
 
-  pub length-pieces-for : length (pieces-for n c u p) ≡ pieces-words c
+  length-pieces-for : length (pieces-for l p) ≡ pieces-words (l .changes)
   length-pieces-for =
-      let a = length-append (row-for c (p .changes)) (tables-for (length (p .cells)) (slots-for n)) in
-      let b = length-row c (p .changes) (within .changes) in
-      let d = length-tables (length (p .cells)) (slots-for n) in
+      let a = length-append (row-for l p) (store-for l p) in
+      let b = length-row in
+      let c = length-tables (length (p .cells)) (slots-for (l .cells)) in
       omega arith
 
-  tables-are : tables (pieces-for n c u p) ≡ tables-for (length (p .cells)) (slots-for n)
-  tables-are =
-      sym (drop-drop (2 * c) 16 (pieces-for n c u p))
-      ∙ drop-at (row-for c (p .changes)) (tables-for (length (p .cells)) (slots-for n)) (2 * c) (length-row c (p .changes) (within .changes))
+  pub holds-for : Holds (memory-for l p) (cells-for l p) (pieces-for l p) (undo-for l)
+  holds-for = record { words = refl; cells = length-cells-for; pieces = length-pieces-for; undo = length-replicate {A = ℕ} (undo-words (l .undos)) 0 }
 
-  cells-are : cells-of (cells-for n p) (tables (pieces-for n c u p)) (slots-for n) ≡ p .cells
-  cells-are =
-      rw tables-are (text-back (cells-for n p) (replicate (cells-words n - 4 * length (p .cells)) 0) (p .cells) (slots-for n) (omega arith) (omega arith) refl)
+  tables-are : tables (pieces-for l p) ≡ store-for l p
+  tables-are = sym (drop-drop (2 * l .changes) 16 (pieces-for l p)) ∙ drop-at (row-for l p) (store-for l p) (2 * l .changes) length-row
 
-  changes-are : changes-of (drop 16 (pieces-for n c u p)) (length (p .changes)) ≡ p .changes
+  cells-are : cells-of (cells-for l p) (tables (pieces-for l p)) (slots-for (l .cells)) ≡ p .cells
+  cells-are = rw tables-are (text-back (cells-for l p) (cells-left l p) (p .cells) (slots-for (l .cells)) (omega arith) (omega arith) refl)
+
+  changes-are : changes-of (drop 16 (pieces-for l p)) (length (p .changes)) ≡ p .changes
   changes-are =
-      changes-back (drop 16 (pieces-for n c u p)) (replicate (2 * c - 2 * length (p .changes)) 0 ++ tables-for (length (p .cells)) (slots-for n)) 0 (p .changes)
-      (append-assoc (changes-written (p .changes)) (replicate (2 * c - 2 * length (p .changes)) 0) (tables-for (length (p .cells)) (slots-for n)))
+      changes-back (drop 16 (pieces-for l p)) (changes-left l p ++ store-for l p) 0 (p .changes)
+      (append-assoc (changes-written (p .changes)) (changes-left l p) (store-for l p))
 
-  pub paper-is : paper-of (cells-for n p) (pieces-for n c u p) ≡ p
+  pub paper-is : paper-of (cells-for l p) (pieces-for l p) ≡ p
   paper-is = ap₂ (λ (xs : List Cell) (ys : List Change). record { cells = xs; changes = ys }) cells-are changes-are
 
-  pub sound-for : Sound (cells-for n p) (pieces-for n c u p) (undo-for u)
+  pub sound-for : Sound (cells-for l p) (pieces-for l p) (undo-for l)
   sound-for =
       let long-cells = length-cells-for in
       let long-pieces = length-pieces-for in
-      let table = table-for (length (p .cells)) (slots-for n) (omega arith) (omega arith) (omega arith) in
-      let store : Store (cells-for n p) (tables (pieces-for n c u p)) (slots-for n) = record { room = omega arith; table = rw tables-are table } in
-      let cells-fit : length (paper-of (cells-for n p) (pieces-for n c u p) .cells) ≤ n = rw cells-are (within .cells) in
+      let table = table-for (length (p .cells)) (slots-for (l .cells)) (omega arith) (omega arith) (omega arith) in
+      let store : Store (cells-for l p) (tables (pieces-for l p)) (slots-for (l .cells)) = record { room = omega arith; table = rw tables-are table } in
+      let cells-fit : length (paper-of (cells-for l p) (pieces-for l p) .cells) ≤ l .cells = rw cells-are (within .cells) in
       search needs
 
-  pub fit-for : Of-paper p → Fit (cells-for n p) (pieces-for n c u p) (undo-for u)
+  pub fit-for : Of-paper p → Fit (cells-for l p) (pieces-for l p) (undo-for l)
   fit-for small = (
-    small-append (cells-written (p .cells)) (replicate (cells-words n - 4 * length (p .cells)) 0) (cells-small (p .cells) (small .cells)) (small-zeros _),
-    small-append (n ∷ (c ∷ (u ∷ (length (p .changes) ∷ replicate 12 0)))) (row-for c (p .changes) ++ tables-for (length (p .cells)) (slots-for n))
-        (small-cons n (c ∷ (u ∷ (length (p .changes) ∷ replicate 12 0))) (omega arith)
-        (small-cons c (u ∷ (length (p .changes) ∷ replicate 12 0)) (omega arith)
-        (small-cons u (length (p .changes) ∷ replicate 12 0) (omega arith)
-        (small-cons (length (p .changes)) (replicate 12 0) (omega arith) (small-zeros 12)))))
-        (small-append (row-for c (p .changes)) (tables-for (length (p .cells)) (slots-for n))
-        (small-append (changes-written (p .changes)) (replicate (2 * c - 2 * length (p .changes)) 0) (changes-small (p .changes) (small .changes)) (small-zeros _))
-        (tables-fit (length (p .cells)) (slots-for n) (omega arith))),
-    small-zeros (undo-words u),
+    small-append (cells-written (p .cells)) (cells-left l p) (cells-small (p .cells) (small .cells)) (small-zeros _),
+    small-append (head-for l p) (row-for l p ++ store-for l p) head-small
+        (small-append (row-for l p) (store-for l p)
+        (small-append (changes-written (p .changes)) (changes-left l p) (changes-small (p .changes) (small .changes)) (small-zeros _))
+        (tables-fit (length (p .cells)) (slots-for (l .cells)) (omega arith))),
+    small-zeros (undo-words (l .undos)),
   )
+    where
+      head-small : Small (head-for l p)
+      head-small zero = omega arith
+      head-small (suc zero) = omega arith
+      head-small (suc (suc zero)) = omega arith
+      head-small (suc (suc (suc zero))) = omega arith
+      head-small (suc (suc (suc (suc i)))) = small-zeros 12 i
 
 -- the empty paper
 abbrev pub empty : Paper
 empty = new-desk .now
 
-pub opened-cells-are : (n : ℕ) → cells-for n empty ≡ opened-cells n
+pub opened-cells-are : (l : Limits) → cells-for l empty ≡ opened-cells (l .cells)
 unfolding cells-written
-opened-cells-are n = let e : cells-words n - 4 * 0 ≡ cells-words n = omega arith in ap (λ (k : ℕ). replicate k 0) e
+opened-cells-are l = let e : cells-words (l .cells) - 4 * 0 ≡ cells-words (l .cells) = omega arith in ap (λ (k : ℕ). replicate k 0) e
 
-pub opened-pieces-are : (n c u : ℕ) → n ≤ 1000000 → pieces-for n c u empty ≡ opened-pieces n c u
+pub opened-pieces-are : (l : Limits) → Good-limits l → pieces-for l empty ≡ opened-pieces (l .cells) (l .changes) (l .undos)
 unfolding changes-written
-opened-pieces-are n c u few =
-    let e : 2 * c - 2 * 0 ≡ 2 * c = omega arith in
-    let a : replicate {A = ℕ} 13 0 ++ replicate (2 * c - 2 * 0) 0 ≡ replicate (13 + 2 * c) 0 =
-    ap (λ (k : ℕ). replicate {A = ℕ} 13 0 ++ replicate k 0) e ∙ replicate-append-replicate 13 (2 * c) 0 in
-    let t = tables-none (slots-for n) (omega arith) in
-    ap₂ (λ (xs ys : List ℕ). n ∷ (c ∷ (u ∷ (xs ++ ys)))) a t
+opened-pieces-are l good =
+    let e : 2 * l .changes - 2 * 0 ≡ 2 * l .changes = omega arith in
+    let zeros : replicate {A = ℕ} 13 0 ++ replicate (2 * l .changes - 2 * 0) 0 ≡ replicate (13 + 2 * l .changes) 0 =
+    ap (λ (k : ℕ). replicate {A = ℕ} 13 0 ++ replicate k 0) e ∙ replicate-append-replicate 13 (2 * l .changes) 0 in
+    ap₂ (λ (xs ys : List ℕ). l .cells ∷ (l .changes ∷ (l .undos ∷ (xs ++ ys)))) zeros (tables-none (slots-for (l .cells)) (omega arith))

@@ -20,7 +20,7 @@ use Rattle.session.specs.Memory.{cells-words, pieces-words, undo-words, limits-
 use Rattle.session.specs.Contract.{Does, Fit}
 use Rattle.session.specs.Keeping.{Holds, Opens, Calls, Some-keeper}
 use Rattle.witness.proofs.Small.{Of-paper, put-small, row-small, text-small}
-use Rattle.witness.proofs.Canonical.{Within, cells-for, pieces-for, undo-for, length-cells-for, length-pieces-for, length-undo-for, paper-is, sound-for, fit-for, empty, opened-cells-are, opened-pieces-are}
+use Rattle.witness.proofs.Canonical.{Within, cells-for, pieces-for, undo-for, memory-for, holds-for, paper-is, sound-for, fit-for, empty, opened-cells-are, opened-pieces-are}
 
 -- the slices in one list of words
 abbrev pieces-in : Memory → List ℕ
@@ -28,9 +28,6 @@ pieces-in m = take (pieces-words (getD (m .words) 1 0)) (m .words)
 
 abbrev cells-in : Memory → List ℕ
 cells-in m = take (cells-words (getD (m .words) 0 0)) (drop (pieces-words (getD (m .words) 1 0)) (m .words))
-
-abbrev memory-for : Limits → Paper → Memory
-memory-for l p = record { words = pieces-for (l .cells) (l .changes) (l .undos) p ++ (cells-for (l .cells) p ++ undo-for (l .undos)) }
 
 -- a desk with a paper, at which nothing can be undone or redone
 abbrev bare : Paper → Desk
@@ -58,35 +55,21 @@ slices m cs ps us holds =
     (cc, cc)
 
 -- No call that can be done tells of what could be undone or redone.
-bare-turned : (ps : List ℕ) (d : Desk) (c : Call) → turned (limits-of ps) d c ≡ turned (limits-of ps) (bare (d .now)) c
-unfolding call-number turned-by
-bare-turned ps d (put a i s ls) = refl
-bare-turned ps d (strikes a i n) = refl
-bare-turned ps d (accepts c) = refl
-bare-turned ps d (rejects c) = refl
-bare-turned ps d (styles i n s) = refl
-bare-turned ps d undo = refl
-bare-turned ps d redo = refl
-bare-turned ps d (show k w r n) = refl
-bare-turned ps d (find k i ls) = refl
-bare-turned ps d (count k) = refl
-bare-turned ps d (change c) = refl
-bare-turned ps d (save i n) = refl
-
-bare-answer : (ps : List ℕ) (d : Desk) (c : Call) → answer (limits-of ps) d c ≡ answer (limits-of ps) (bare (d .now)) c
+bare-same : (ps : List ℕ) (d : Desk) (c : Call) →
+    (turned (limits-of ps) d c ≡ turned (limits-of ps) (bare (d .now)) c) × (answer (limits-of ps) d c ≡ answer (limits-of ps) (bare (d .now)) c)
 unfolding call-number turned-by told
-bare-answer ps d (put a i s ls) = refl
-bare-answer ps d (strikes a i n) = refl
-bare-answer ps d (accepts c) = refl
-bare-answer ps d (rejects c) = refl
-bare-answer ps d (styles i n s) = refl
-bare-answer ps d undo = refl
-bare-answer ps d redo = refl
-bare-answer ps d (show k w r n) = refl
-bare-answer ps d (find k i ls) = refl
-bare-answer ps d (count k) = refl
-bare-answer ps d (change c) = refl
-bare-answer ps d (save i n) = refl
+bare-same ps d (put a i s ls) = (refl, refl)
+bare-same ps d (strikes a i n) = (refl, refl)
+bare-same ps d (accepts c) = (refl, refl)
+bare-same ps d (rejects c) = (refl, refl)
+bare-same ps d (styles i n s) = (refl, refl)
+bare-same ps d undo = (refl, refl)
+bare-same ps d redo = (refl, refl)
+bare-same ps d (show k w r n) = (refl, refl)
+bare-same ps d (find k i ls) = (refl, refl)
+bare-same ps d (count k) = (refl, refl)
+bare-same ps d (change c) = (refl, refl)
+bare-same ps d (save i n) = (refl, refl)
 
 pick-same : {A : Type 0} (b : Bool) (x : A) → pick b x x ≡ x
 pick-same true x = refl
@@ -117,10 +100,10 @@ module _ (m : Memory) (cs ps us : List ℕ) (holds : Holds m cs ps us) (sound : 
   paper = paper-of cs ps
 
   says-same : (d : Desk) (c : Call) → d .now ≡ paper → answer-bytes (says-in cs ps c) ≡ answer-bytes (answer (limits-of ps) d c)
-  says-same d c e = ap answer-bytes (sym (bare-answer ps d c ∙ ap (λ (p : Paper). answer (limits-of ps) (bare p) c) e))
+  says-same d c e = ap answer-bytes (sym (bare-same ps d c .1 ∙ ap (λ (p : Paper). answer (limits-of ps) (bare p) c) e))
 
   turned-same : (d : Desk) (c : Call) → d .now ≡ paper → turned (limits-of ps) d c ≡ turned (limits-of ps) (bare paper) c
-  turned-same d c e = bare-turned ps d c ∙ ap (λ (p : Paper). turned (limits-of ps) (bare p) c) e
+  turned-same d c e = bare-same ps d c .0 ∙ ap (λ (p : Paper). turned (limits-of ps) (bare p) c) e
 
   -- a call that leaves every desk with this paper as it is
   still : (c : Call) → readable c ≡ true → ((d : Desk) → d .now ≡ paper → after (limits-of ps) d c ≡ d) → Calls cs ps us c m (says-in cs ps c)
@@ -154,24 +137,22 @@ module _ (m : Memory) (cs ps us : List ℕ) (holds : Holds m cs ps us) (sound : 
     new = rewritten paper c
 
     abbrev cs′ : List ℕ
-    cs′ = cells-for (getD ps 0 0) new
+    cs′ = cells-for (limits-of ps) new
 
     abbrev ps′ : List ℕ
-    ps′ = pieces-for (getD ps 0 0) (getD ps 1 0) (getD ps 2 0) new
+    ps′ = pieces-for (limits-of ps) new
 
     abbrev us′ : List ℕ
-    us′ = undo-for (getD ps 2 0)
+    us′ = undo-for (limits-of ps)
 
     shown : (good-call (limits-of ps) c ≡ true) × (fits (limits-of ps) new ≡ true)
     shown = not-turned (good-call (limits-of ps) c) (turned-by (bare paper) c) (fits (limits-of ps) new) done
 
-    within : Within (getD ps 0 0) (getD ps 1 0) (getD ps 2 0) new
+    within : Within (limits-of ps) new
     within =
         let room = and-parts (leb (length (new .cells)) (getD ps 0 0)) (leb (length (new .changes)) (getD ps 1 0)) (shown .1) in
         record {
-          few-cells = omega arith;
-          few-changes = omega arith;
-          few-undos = omega arith;
+          good = (omega arith, omega arith, omega arith);
           cells = leb-true (length (new .cells)) (getD ps 0 0) (room .0);
           changes = leb-true (length (new .changes)) (getD ps 1 0) (room .1);
         }
@@ -186,11 +167,9 @@ module _ (m : Memory) (cs ps us : List ℕ) (holds : Holds m cs ps us) (sound : 
     unfolding writes
     put-done =
         let rs : List ℕ = answer-bytes (says-in cs ps c) in
-        let long-cells : length cs′ ≡ cells-words (getD ps 0 0) = length-cells-for (getD ps 0 0) (getD ps 1 0) (getD ps 2 0) new within in
-        let long-pieces : length ps′ ≡ pieces-words (getD ps 1 0) = length-pieces-for (getD ps 0 0) (getD ps 1 0) (getD ps 2 0) new within in
-        let long-undo : length us′ ≡ undo-words (getD ps 2 0) = length-undo-for (getD ps 2 0) in
-        let right : Sound cs′ ps′ us′ = sound-for (getD ps 0 0) (getD ps 1 0) (getD ps 2 0) new within in
-        let is : paper-of cs′ ps′ ≡ new = paper-is (getD ps 0 0) (getD ps 1 0) (getD ps 2 0) new within in
+        let right : Sound cs′ ps′ us′ = sound-for (limits-of ps) new within in
+        let is : paper-of cs′ ps′ ≡ new = paper-is (limits-of ps) new within in
+        let long : Holds (memory-for (limits-of ps) new) cs′ ps′ us′ = holds-for (limits-of ps) new within in
         let does : Does (call-is c) cs ps us cs′ ps′ us′ rs =
         λ d st.
         let same : turned (limits-of ps) d c ≡ 0 = turned-same d c (st .paper) ∙ done in
@@ -205,20 +184,20 @@ module _ (m : Memory) (cs ps us : List ℕ) (holds : Holds m cs ps us) (sound : 
           cells = cs′;
           pieces = ps′;
           undo = us′;
-          holds = record { words = refl; cells = long-cells; pieces = long-pieces; undo = long-undo };
+          holds = long;
           called = record {
             does = subst (λ (r : Reading). Does r cs ps us cs′ ps′ us′ rs) (sym (reads-back c readable-put)) does;
             sound = right;
             limits = refl;
             beyond = record {
-              cells = past-end (cells-words (getD ps 0 0)) cs′ cs long-cells (holds .cells);
-              pieces = past-end (pieces-words (getD ps 1 0)) ps′ ps long-pieces (holds .pieces);
-              undo = past-end (undo-words (getD ps 2 0)) us′ us long-undo (holds .undo);
-              cells-length = long-cells ∙ sym (holds .cells);
-              pieces-length = long-pieces ∙ sym (holds .pieces);
-              undo-length = long-undo ∙ sym (holds .undo);
+              cells = past-end (cells-words (getD ps 0 0)) cs′ cs (long .cells) (holds .cells);
+              pieces = past-end (pieces-words (getD ps 1 0)) ps′ ps (long .pieces) (holds .pieces);
+              undo = past-end (undo-words (getD ps 2 0)) us′ us (long .undo) (holds .undo);
+              cells-length = long .cells ∙ sym (holds .cells);
+              pieces-length = long .pieces ∙ sym (holds .pieces);
+              undo-length = long .undo ∙ sym (holds .undo);
             };
-            fit = fit-for (getD ps 0 0) (getD ps 1 0) (getD ps 2 0) new within new-small;
+            fit = fit-for (limits-of ps) new within new-small;
           };
         }
 
@@ -249,27 +228,22 @@ exact k xs ys e l = e ∙ sym (append-nil ys) ∙ ap (λ (zs : List ℕ). ys ++ 
 
 opens-in : (l : Limits) → Good-limits l → Opens l (memory-for l empty)
 opens-in l good =
-    let n : ℕ = l .cells in
-    let c : ℕ = l .changes in
-    let u : ℕ = l .undos in
-    let within : Within n c u empty = record { few-cells = good .0; few-changes = good .1; few-undos = good .2; cells = omega arith; changes = omega arith } in
-    let long-cells = length-cells-for n c u empty within in
-    let long-pieces = length-pieces-for n c u empty within in
-    let long-undo : length (undo-for u) ≡ undo-words u = length-undo-for u in
+    let within : Within l empty = record { good = good; cells = omega arith; changes = omega arith } in
+    let holds : Holds (memory-for l empty) (cells-for l empty) (pieces-for l empty) (undo-for l) = holds-for l empty within in
     record {
-      cells = cells-for n empty;
-      pieces = pieces-for n c u empty;
-      undo = undo-for u;
-      cells-before = cells-for n empty;
-      pieces-before = pieces-for n c u empty;
-      undo-before = undo-for u;
-      holds = record { words = refl; cells = long-cells; pieces = long-pieces; undo = long-undo };
+      cells = cells-for l empty;
+      pieces = pieces-for l empty;
+      undo = undo-for l;
+      cells-before = cells-for l empty;
+      pieces-before = pieces-for l empty;
+      undo-before = undo-for l;
+      holds = holds;
       opened = record {
-        cells = exact (cells-words n) (cells-for n empty) _ (opened-cells-are n) long-cells;
-        pieces = exact (pieces-words c) (pieces-for n c u empty) _ (opened-pieces-are n c u (good .0)) long-pieces;
-        undo = exact (undo-words u) (undo-for u) (opened-undo u) refl long-undo;
-        stands = record { sound = sound-for n c u empty within; paper = sym (paper-is n c u empty within) };
-        fit = fit-for n c u empty within (record { cells = tt; changes = tt });
+        cells = exact (cells-words (l .cells)) (cells-for l empty) _ (opened-cells-are l) (holds .cells);
+        pieces = exact (pieces-words (l .changes)) (pieces-for l empty) _ (opened-pieces-are l good) (holds .pieces);
+        undo = exact (undo-words (l .undos)) (undo-for l) (opened-undo (l .undos)) refl (holds .undo);
+        stands = record { sound = sound-for l empty within; paper = sym (paper-is l empty within) };
+        fit = fit-for l empty within (record { cells = tt; changes = tt });
       };
     }
 

@@ -22,10 +22,6 @@ Word n = n < 4294967296
 abbrev pub Small : List ℕ → Type 0
 Small ws = (i : ℕ) → Word (getD ws i 0)
 
-pub small-cons : (w : ℕ) (ws : List ℕ) → Word w → Small ws → Small (w ∷ ws)
-small-cons w ws h k zero = h
-small-cons w ws h k (suc i) = k i
-
 pub small-append : (vs ws : List ℕ) → Small vs → Small ws → Small (vs ++ ws)
 small-append [] ws h k i = k i
 small-append (v ∷ vs) ws h k zero = h 0
