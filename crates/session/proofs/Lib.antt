@@ -5,5 +5,6 @@ mod Looking
 mod Opening
 mod Putting
 mod Ranges
+mod Saying
 mod Serving
 mod Writing

@@ -1,14 +1,14 @@
 // The desk on lent memory: three slices of words, which the caller lends to every call. `open` makes an empty desk in them, `call` does a call that
 // comes as bytes and writes the answer as bytes. What memory holds, and what each promises of it, is in specs/.
-ghost use Prim.Native.Nat.{ℕ, _*_, _+_, _<_, _≤_};
+ghost use Prim.Native.Nat.{ℕ, _*_, _+_, _<_, _≤_, min};
 ghost use Rattle.model.specs.Paper.{new-cells};
 ghost use Rattle.pieces.specs.Store.{Table, before};
 ghost use Rattle.session.specs.Acts.{Acted, Noted, Said, Wrote, allows, with-cells};
 ghost use Rattle.model.specs.Calls.{count as counts, good-fields, put as puts, show as shows};
-ghost use Rattle.codec.specs.Values.{told};
-ghost use Rattle.session.specs.Contract.{Opening};
+ghost use Rattle.codec.specs.Values.{meaning, told};
+ghost use Rattle.session.specs.Contract.{Called, Opening};
 ghost use Rattle.session.specs.Keeping.{Any-chain, Main-promise};
-ghost use Rattle.session.specs.Memory.{Held, cells-words, paper-of, pieces-words, slots-of, tables, undo-words};
+ghost use Rattle.session.specs.Memory.{Held, Sound, cells-words, paper-of, pieces-words, slots-of, tables, undo-words};
 ghost use Rattle.std.specs.declared.option.Option.the-variants.{None, Some};
 ghost use lib.Dec.{leb};
 ghost use lib.ListN.{drop, getD, length, replicate, take};
@@ -19,6 +19,7 @@ ghost use mathlib.Core.Path.{_≡_};
 mod range;
 
 use codec::Answer;
+use codec::Call;
 
 const HEAD: usize = 16;
 
@@ -108,6 +109,56 @@ fn begin(pieces: &mut [u32], limits: Limits)
     pieces[0] = limits.cells;
     pieces[1] = limits.changes;
     pieces[2] = limits.undos;
+}
+
+// Does the call that the bytes are, or refuses it, and writes the answer into the first bytes of `answer`; returns how many those are. Bytes that are no
+// call are refused by 1, a call out of range by 2; the other checks are the calls' own, in the order of the refusals' numbers.
+pub fn call(cells: &mut [u32], pieces: &mut [u32], undo: &mut [u32], bytes: &[u8], answer: &mut [u8]) -> usize
+    requires sound { ⌜ Sound (now cells) (now pieces) (now undo) ⌝ }
+    requires room { ⌜ 262405 ≤ length (now answer) ⌝ }
+    ensures called { λ r. ⌜ Called (now (cells .entry)) (now (pieces .entry)) (now (undo .entry)) (now (bytes .entry)) (now (cells .exit)) (now (pieces .exit)) (now (undo .exit)) (take r (now (answer .exit))) ⌝ }
+    ensures within { λ r. ⌜ r ≤ length (now (answer .entry)) ⌝ }
+    ensures rest { λ r. ⌜ drop r (now (answer .exit)) ≡ drop r (now (answer .entry)) ⌝ }
+{
+    match codec::read(bytes) {
+        Ok((call, letters)) => serve(cells, pieces, call, letters, answer),
+        Err(at) => codec::write(Answer::Refused(1, told_place(at)), answer),
+    }
+}
+
+// A place as far as four bytes can tell it.
+fn told_place(at: usize) -> u32
+    ensures { λ r. ⌜ r ≡ min at 4294967295 ⌝ }
+{
+    if at < 4294967295 { at as u32 } else { 4294967295 }
+}
+
+// Does a call that could be read, or refuses it.
+fn serve(cells: &mut [u32], pieces: &mut [u32], call: Call, letters: &[u8], answer: &mut [u8]) -> usize
+    requires held { ⌜ Held (now cells) (now pieces) ⌝ }
+    requires room { ⌜ 262405 ≤ length (now answer) ⌝ }
+    ensures { λ r. ⌜ Said (now (cells .entry)) (now (pieces .entry)) (meaning call (now (letters .entry))) (now (cells .exit)) (now (pieces .exit)) (now (answer .entry)) (now (answer .exit)) r ⌝ }
+{
+    if !(range::can(call) & range::within(call, letters)) {
+        return codec::write(Answer::Refused(2, 0), answer);
+    }
+    match call {
+        Call::Put { author, place, style } => {
+            let number = put(cells, pieces, author, place, style, letters);
+            codec::write(number, answer)
+        }
+        Call::Show { way, width, row, count } => {
+            let rows = Rows {
+                way,
+                width,
+                first: row,
+                count,
+            };
+            show(cells, pieces, rows, answer)
+        }
+        Call::Count { way } => codec::write(count(cells, pieces, way), answer),
+        _ => unreachable(),
+    }
 }
 
 // An author puts letters before a cell, or at the end: a new change, whose number is the answer.

@@ -18,7 +18,7 @@ cast-result c =
     let ps = c .args .pieces .now in
     let xs = paper-of (c .args .cells .now) ps .cells in
     let slots : c .slots-for-slots .result ≡ slots-of ps = c .slots-for-slots .ensures .slots in
-    let is : c .count .result ≡ length (view (c .args .way) xs) = rw (take-rest, slots) at (c .count .ensures) in
+    let is : c .count .result ≡ length (view (c .args .way) xs) = rw (take-rest, slots) at (c .count .ensures .cells) in
     let most : length (view (c .args .way) xs) ≤ length xs = length-view (c .args .way) xs in
     record { fits = omega (arith, is, most, c .pre .held .cells-fit, c .pre .held .few-cells) }
 
@@ -27,5 +27,5 @@ returns c =
     let cs = c .args .cells .now in
     let ps = c .args .pieces .now in
     let slots : c .slots-for-slots .result ≡ slots-of ps = c .slots-for-slots .ensures .slots in
-    let is : c .count .result ≡ length (view (c .args .way) (paper-of cs ps .cells)) = rw (take-rest, slots) at (c .count .ensures) in
+    let is : c .count .result ≡ length (view (c .args .way) (paper-of cs ps .cells)) = rw (take-rest, slots) at (c .count .ensures .cells) in
     rw is (counted cs ps (c .args .way) (c .pre .held) (c .pre .good))
