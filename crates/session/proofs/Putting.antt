@@ -46,9 +46,9 @@ module _ (cs ps : List ℕ) (held : Held cs ps) (a i s : ℕ) (ls : List ℕ) (g
   unfolding rewritten
   fit =
       let x : length (rewritten (paper-of cs ps) (put a i s ls) .cells) ≡ before (tables ps) (slots-of ps) + length ls =
-          inserted-length (paper-of cs ps .cells) ls i s (length (paper-of cs ps .changes)) ∙ ap (λ (n : ℕ). n + length ls) cells-counted in
+      inserted-length (paper-of cs ps .cells) ls i s (length (paper-of cs ps .changes)) ∙ ap (λ (n : ℕ). n + length ls) cells-counted in
       let y : length (rewritten (paper-of cs ps) (put a i s ls) .changes) ≡ suc (getD ps 3 0) =
-          length-append (paper-of cs ps .changes) (record { author = a; became = 0 } ∷ []) ∙ omega (arith, changes-counted) in
+      length-append (paper-of cs ps .changes) (record { author = a; became = 0 } ∷ []) ∙ omega (arith, changes-counted) in
       ap₂ (λ (m n : ℕ). leb m (getD ps 0 0) && leb n (getD ps 1 0)) x y
 
   pub put-nowhere : leb i (before (tables ps) (slots-of ps)) ≡ false → Acted cs ps (put a i s ls) cs ps (refused 4 1)
@@ -92,9 +92,10 @@ module _ (cs ps : List ℕ) (held : Held cs ps) (a i s : ℕ) (ls : List ℕ) (g
       let t : turned (limits-of ps) (desk-of cs ps) (put a i s ls) ≡ 0 = turned-not (limits-of ps) (desk-of cs ps) (put a i s ls) good-put (there h) (fit ∙ k) in
       let p : Paper = paper-of cs ps in
       let with : ℕ → Paper = λ n. record {
-        cells = take i (p .cells) ++ (new-cells ls s n ++ drop i (p .cells)); changes = p .changes ++ (record { author = a; became = 0 } ∷ [])
+        cells = take i (p .cells) ++ (new-cells ls s n ++ drop i (p .cells));
+        changes = p .changes ++ (record { author = a; became = 0 } ∷ []);
       } in
       let all : Wrote cs ps cs′ qs (with (getD ps 3 0)) =
-          noted-too cs ps cs′ ps′ qs (with-cells p xs) a w note less in
+      noted-too cs ps cs′ ps′ qs (with-cells p xs) a w note less in
       let done : Wrote cs ps cs′ qs (rewritten p (put a i s ls)) = subst (λ (n : ℕ). Wrote cs ps cs′ qs (with n)) (sym changes-counted) all in
       subst (λ (n : ℕ). Acted cs ps (put a i s ls) cs′ qs (number n)) changes-counted (wrote-it cs ps cs′ qs (put a i s ls) t refl done)

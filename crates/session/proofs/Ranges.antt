@@ -1,16 +1,16 @@
 -- Letters and numbers in range. Assumes nothing.
-use mathlib.Core.Path.{_≡_, refl, sym, ap, _∙_}
+use mathlib.Core.Path.{_≡_, refl, sym, ap, ap₂, _∙_}
 use mathlib.Core.Bool.{Bool, true, false, _&&_, _||_}
 use mathlib.Core.List.{List, [], _∷_}
 use Prim.Native.Nat.{ℕ, _+_, _≤_, _<_}
 use lib.Dec.{eqb, leb}
 use lib.ListN.{length, getD, drop}
 use Rattle.std.proofs.shelf.Lists.{at-drop-more, at-drop-all}
-use Rattle.model.specs.Calls.{call-number, good-fields, good-letters}
+use Rattle.model.specs.Calls.{call-number, good-call, good-fields, good-letters}
 use Rattle.codec.specs.Values.{meaning}
 use Rattle.codec.specs.declared.Call.{Call}
 use Rattle.codec.specs.declared.Call.the-variants.{Put, Strike, Accept, Reject, Style, Undo, Redo, Show, Find, Count, Change, Save}
-use Rattle.session.specs.Memory.{stage}
+use Rattle.session.specs.Memory.{stage, limits-of}
 use Rattle.session.specs.Range.{can, in-range}
 
 abbrev pub good : ℕ → Bool
@@ -54,3 +54,7 @@ in-range-is (Find k i) ls = refl
 in-range-is (Count k) ls = refl
 in-range-is (Change c) ls = refl
 in-range-is (Save i n) ls = refl
+
+-- what the code tests is what refusal 2 is about
+pub good-is : (ps : List ℕ) (c : Call) (ls : List ℕ) → (can c && in-range c ls) ≡ good-call (limits-of ps) (meaning c ls)
+good-is ps c ls = ap₂ _&&_ (can-is c ls) (in-range-is c ls)

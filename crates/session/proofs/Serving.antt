@@ -3,13 +3,13 @@
 use mathlib.Core.Path.{_≡_, refl, sym, ap, subst, _∙_}
 use mathlib.Core.Bool.{Bool, true, false}
 use mathlib.Core.List.{List, []}
-use Prim.Native.Nat.{ℕ, _≤_, _<_}
+use Prim.Native.Nat.{ℕ, _≤_, _<_, min}
 use lib.Dec.{eqb}
 use lib.ListN.{length, getD}
 use Rattle.model.specs.Paper.{pick, Paper}
-use Rattle.model.specs.Calls.{Call, put, strikes, accepts, rejects, styles, undo, redo, show, find, count, change, save, Desk, Limits, call-number, turned-by, writes, moved, told, changed, turned, after, answer}
+use Rattle.model.specs.Calls.{Call, put, strikes, accepts, rejects, styles, undo, redo, show, find, count, change, save, Desk, Limits, refused, call-number, turned-by, writes, moved, told, changed, turned, after, answer}
 use Rattle.codec.specs.Bytes.{answer-bytes}
-use Rattle.codec.specs.Reading.{Reading, reading, call-is}
+use Rattle.codec.specs.Reading.{Reading, reading, call-is, ceases}
 use Rattle.session.specs.Memory.{undo-words, limits-of, paper-of, Held, Sound, Stands}
 use Rattle.session.specs.Acts.{Wrote, desk-of, Acted}
 use Rattle.session.specs.Contract.{Beyond, Does, Done, Fit, Called}
@@ -97,7 +97,7 @@ done cs ps us cs′ ps′ rs c long acted is d st =
       stands = record { sound = still cs ps us cs′ ps′ (after l (desk-of cs ps) c .now) long (acted .wrote); paper = n ∙ sym (acted .wrote .paper) };
       limits = acted .wrote .limits;
       says = is ∙ ap answer-bytes (sym a);
-      kept = λ h. let k : (cs′ ≡ cs) × (ps′ ≡ ps) = acted .kept (subst (λ (m : ℕ). 0 < m) t h) in (k .0, k .1, refl)
+      kept = λ h. let k : (cs′ ≡ cs) × (ps′ ≡ ps) = acted .kept (subst (λ (m : ℕ). 0 < m) t h) in (k .0, k .1, refl);
     }
 
 pub called : (cs ps us bs cs′ ps′ rs : List ℕ) (c : Call) → reading bs ≡ call-is c → undo-long ps us →
@@ -109,7 +109,23 @@ called cs ps us bs cs′ ps′ rs c reads long acted is fit =
       sound = still cs ps us cs′ ps′ (after (limits-of ps) (desk-of cs ps) c .now) long w;
       limits = w .limits;
       beyond = record {
-        cells = w .cells-beyond; pieces = w .pieces-beyond; undo = refl; cells-length = w .cells-length; pieces-length = w .pieces-length; undo-length = refl
+        cells = w .cells-beyond;
+        pieces = w .pieces-beyond;
+        undo = refl;
+        cells-length = w .cells-length;
+        pieces-length = w .pieces-length;
+        undo-length = refl;
       };
-      fit = fit
+      fit = fit;
+    }
+
+-- bytes that are no call
+pub not-called : (cs ps us bs rs : List ℕ) (i : ℕ) → reading bs ≡ ceases i → Sound cs ps us → rs ≡ answer-bytes (refused 1 (min i 4294967295)) → Fit cs ps us → Called cs ps us bs cs ps us rs
+not-called cs ps us bs rs i reads sound is fit =
+    record {
+      does = subst (λ (r : Reading). Does r cs ps us cs ps us rs) (sym reads) (refl, refl, refl, is);
+      sound = sound;
+      limits = refl;
+      beyond = record { cells = refl; pieces = refl; undo = refl; cells-length = refl; pieces-length = refl; undo-length = refl };
+      fit = fit;
     }

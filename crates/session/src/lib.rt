@@ -113,7 +113,13 @@ fn begin(pieces: &mut [u32], limits: Limits)
 
 // Does the call that the bytes are, or refuses it, and writes the answer into the first bytes of `answer`; returns how many those are. Bytes that are no
 // call are refused by 1, a call out of range by 2; the other checks are the calls' own, in the order of the refusals' numbers.
-pub fn call(cells: &mut [u32], pieces: &mut [u32], undo: &mut [u32], bytes: &[u8], answer: &mut [u8]) -> usize
+pub fn call(
+    cells: &mut [u32],
+    pieces: &mut [u32],
+    undo: &mut [u32],
+    bytes: &[u8],
+    answer: &mut [u8],
+) -> usize
     requires sound { ⌜ Sound (now cells) (now pieces) (now undo) ⌝ }
     requires room { ⌜ 262405 ≤ length (now answer) ⌝ }
     ensures called { λ r. ⌜ Called (now (cells .entry)) (now (pieces .entry)) (now (undo .entry)) (now (bytes .entry)) (now (cells .exit)) (now (pieces .exit)) (now (undo .exit)) (take r (now (answer .exit))) ⌝ }
@@ -130,11 +136,21 @@ pub fn call(cells: &mut [u32], pieces: &mut [u32], undo: &mut [u32], bytes: &[u8
 fn told_place(at: usize) -> u32
     ensures { λ r. ⌜ r ≡ min at 4294967295 ⌝ }
 {
-    if at < 4294967295 { at as u32 } else { 4294967295 }
+    if at < 4294967295 {
+        at as u32
+    } else {
+        4294967295
+    }
 }
 
 // Does a call that could be read, or refuses it.
-fn serve(cells: &mut [u32], pieces: &mut [u32], call: Call, letters: &[u8], answer: &mut [u8]) -> usize
+fn serve(
+    cells: &mut [u32],
+    pieces: &mut [u32],
+    call: Call,
+    letters: &[u8],
+    answer: &mut [u8],
+) -> usize
     requires held { ⌜ Held (now cells) (now pieces) ⌝ }
     requires room { ⌜ 262405 ≤ length (now answer) ⌝ }
     ensures { λ r. ⌜ Said (now (cells .entry)) (now (pieces .entry)) (meaning call (now (letters .entry))) (now (cells .exit)) (now (pieces .exit)) (now (answer .entry)) (now (answer .exit)) r ⌝ }
@@ -143,11 +159,20 @@ fn serve(cells: &mut [u32], pieces: &mut [u32], call: Call, letters: &[u8], answ
         return codec::write(Answer::Refused(2, 0), answer);
     }
     match call {
-        Call::Put { author, place, style } => {
+        Call::Put {
+            author,
+            place,
+            style,
+        } => {
             let number = put(cells, pieces, author, place, style, letters);
             codec::write(number, answer)
         }
-        Call::Show { way, width, row, count } => {
+        Call::Show {
+            way,
+            width,
+            row,
+            count,
+        } => {
             let rows = Rows {
                 way,
                 width,
@@ -162,7 +187,14 @@ fn serve(cells: &mut [u32], pieces: &mut [u32], call: Call, letters: &[u8], answ
 }
 
 // An author puts letters before a cell, or at the end: a new change, whose number is the answer.
-fn put(cells: &mut [u32], pieces: &mut [u32], author: u32, place: u32, style: u32, letters: &[u8]) -> Answer
+fn put(
+    cells: &mut [u32],
+    pieces: &mut [u32],
+    author: u32,
+    place: u32,
+    style: u32,
+    letters: &[u8],
+) -> Answer
     requires held { ⌜ Held (now cells) (now pieces) ⌝ }
     requires good { ⌜ good-fields (puts author place style (now letters)) ≡ true ⌝ }
     ensures { λ r. ⌜ Acted (now (cells .entry)) (now (pieces .entry)) (puts author place style (now (letters .entry))) (now (cells .exit)) (now (pieces .exit)) (told r) ⌝ }
@@ -199,7 +231,16 @@ fn show(cells: &[u32], pieces: &[u32], rows: Rows, answer: &mut [u8]) -> usize
 {
     let slots = pieces::slots_for(pieces[0] as usize);
     let from = HEAD + 2 * pieces[1] as usize;
-    match layout::show(cells, &pieces[from..], slots, rows.way, rows.width, rows.first, rows.count, answer) {
+    match layout::show(
+        cells,
+        &pieces[from..],
+        slots,
+        rows.way,
+        rows.width,
+        rows.first,
+        rows.count,
+        answer,
+    ) {
         Some(long) => long,
         None => codec::write(Answer::Refused(8, 2), answer),
     }
@@ -221,7 +262,11 @@ fn count_cells(pieces: &[u32]) -> usize
 fn place_for(count: usize, place: u32) -> Option<usize>
     ensures { λ r. ⌜ elim r [ Some at ↦ (at ≡ place) × (leb place count ≡ true) | None ↦ leb place count ≡ false ] ⌝ }
 {
-    if place as usize <= count { Some(place as usize) } else { None }
+    if place as usize <= count {
+        Some(place as usize)
+    } else {
+        None
+    }
 }
 
 // The number of a new change, if the limits allow one more and so many cells.
@@ -229,11 +274,22 @@ fn room(pieces: &[u32], cells: usize) -> Option<u32>
     requires { ⌜ 4 ≤ length (now pieces) ⌝ }
     ensures { λ r. ⌜ elim r [ Some number ↦ (number ≡ getD (now (pieces .entry)) 3 0) × (allows (now (pieces .entry)) cells ≡ true) | None ↦ allows (now (pieces .entry)) cells ≡ false ] ⌝ }
 {
-    if (cells <= pieces[0] as usize) & (pieces[3] < pieces[1]) { Some(pieces[3]) } else { None }
+    if (cells <= pieces[0] as usize) & (pieces[3] < pieces[1]) {
+        Some(pieces[3])
+    } else {
+        None
+    }
 }
 
 // Puts letters into the store, put in by change number `change`.
-fn insert(cells: &mut [u32], pieces: &mut [u32], place: usize, letters: &[u8], style: u32, change: u32)
+fn insert(
+    cells: &mut [u32],
+    pieces: &mut [u32],
+    place: usize,
+    letters: &[u8],
+    style: u32,
+    change: u32,
+)
     requires held { ⌜ Held (now cells) (now pieces) ⌝ }
     requires place { ⌜ place ≤ length (paper-of (now cells) (now pieces) .cells) ⌝ }
     requires few { ⌜ length (now letters) ≤ 1024 ⌝ }
@@ -243,7 +299,15 @@ fn insert(cells: &mut [u32], pieces: &mut [u32], place: usize, letters: &[u8], s
 {
     let slots = pieces::slots_for(pieces[0] as usize);
     let from = HEAD + 2 * pieces[1] as usize;
-    pieces::put(cells, &mut pieces[from..], slots, place, letters, style, change);
+    pieces::put(
+        cells,
+        &mut pieces[from..],
+        slots,
+        place,
+        letters,
+        style,
+        change,
+    );
 }
 
 // One change more, which is open.

@@ -18,7 +18,7 @@ show-requires c κs =
     let rs = c .args .rows in
     let slots : c .slots-for-slots .result ≡ slots-of (c .args .pieces .now) = c .slots-for-slots .ensures .slots in
     let range : (rs .way < 3) × (1 ≤ rs .width) × (rs .width ≤ 256) × (rs .count ≤ 64) =
-        show-range (c .args .cells .now) (c .args .pieces .now) (rs .way) (rs .width) (rs .first) (rs .count) (c .pre .held) (c .pre .good) in
+    show-range (c .args .cells .now) (c .args .pieces .now) (rs .way) (rs .width) (rs .first) (rs .count) (c .pre .held) (c .pre .good) in
     rw (take-rest, slots) record { store = c .pre .held .store; way = range .0; least = range .1; most = range .2; few = range .3; room = c .pre .room }
 
 pub returns-in-Some : need.returns-in-Some
@@ -30,7 +30,7 @@ returns-in-Some c =
     let slots : c .slots-for-slots .result ≡ slots-of ps = c .slots-for-slots .ensures .slots in
     let s : Shows all (q .first) (q .count) (c .args .answer .now) (c .show .last .out) (c .in-Some .long) = rw (take-rest, slots) at (c .in-Some .ensures tt) in
     said cs ps (show (q .way) (q .width) (q .first) (q .count)) cs ps (c .args .answer .now) (c .show .last .out) (c .in-Some .long) (lines (take (q .count) (drop (q .first) all)))
-        (shown cs ps (q .way) (q .width) (q .first) (q .count) (c .pre .held) (c .pre .good) (s .there)) (s .bytes) (s .long)
+    (shown cs ps (q .way) (q .width) (q .first) (q .count) (c .pre .held) (c .pre .good) (s .there)) (s .bytes) (s .long)
 
 pub returns-in-None : need.returns-in-None
 returns-in-None c =
@@ -41,4 +41,4 @@ returns-in-None c =
     let slots : c .slots-for-slots .result ≡ slots-of ps = c .slots-for-slots .ensures .slots in
     let s : Shows-none all (q .first) (q .count) (c .args .answer .now) (c .show .last .out) = rw (take-rest, slots) at (c .in-None .ensures tt) in
     said cs ps (show (q .way) (q .width) (q .first) (q .count)) cs ps (c .args .answer .now) (c .write .last .out) (c .write .result) (refused 8 2)
-        (not-shown cs ps (q .way) (q .width) (q .first) (q .count) (c .pre .held) (c .pre .good) (s .short)) (rw (s .same) at (c .write .ensures .bytes)) (c .write .ensures .long)
+    (not-shown cs ps (q .way) (q .width) (q .first) (q .count) (c .pre .held) (c .pre .good) (s .short)) (rw (s .same) at (c .write .ensures .bytes)) (c .write .ensures .long)
