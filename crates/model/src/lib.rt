@@ -1,5 +1,7 @@
 // What a paper is on which several people write: the structs that the code passes around, and the laws of their meaning (specs/).
 
+pub mod changes;
+
 // A letter with a style. `put_in` and `struck` name the open change that put it in or struck it out: 0 for none, else one more
 // than the change's number. These are the four numbers that stand for a cell in a paper's file.
 #[derive(Clone, Copy)]

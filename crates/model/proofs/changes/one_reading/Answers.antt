@@ -1,0 +1,5 @@
+use Rattle.model.proofs.File.{one-reading}
+use Rattle.model.proofs.changes.one_reading.Needs as need
+
+pub returns : need.returns
+returns c = one-reading
