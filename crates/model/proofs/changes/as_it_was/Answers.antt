@@ -1,0 +1,5 @@
+use Rattle.model.proofs.Keeping.{as-it-was}
+use Rattle.model.proofs.changes.as_it_was.Needs as need
+
+pub returns : need.returns
+returns c = as-it-was

@@ -1,0 +1,5 @@
+use Rattle.model.proofs.Undoing.{undone-redone}
+use Rattle.model.proofs.changes.undone.Needs as need
+
+pub returns : need.returns
+returns c = undone-redone
