@@ -9,12 +9,7 @@ use lib.Dec.{eqb}
 use Rattle.std.proofs.shelf.Tests.{eqb-true, eqb-false, eq-eqb, ne-eqb}
 use Rattle.model.specs.Paper.{pick, Cell, accept, reject}
 use Rattle.model.specs.Promise.{decided, Any-order}
-
-pub pick-true : {A : Type 0} (t : Bool) (a b : A) → t ≡ true → pick t a b ≡ a
-pick-true t a b e = rw e
-
-pub pick-false : {A : Type 0} (t : Bool) (a b : A) → t ≡ false → pick t a b ≡ b
-pick-false t a b e = rw e
+use Rattle.model.proofs.Picks.{pick-true, pick-false}
 
 -- a mark, once change number c has none any more
 abbrev pub cleared : ℕ → ℕ → ℕ

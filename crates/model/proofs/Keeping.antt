@@ -11,7 +11,7 @@ use Rattle.std.proofs.shelf.Tests.{eqb-true, eqb-false, ne-eqb}
 use Rattle.model.specs.Paper.{pick, Cell, Change, new-cells, author-of, strike, styled, reject, seen, view, letters}
 use Rattle.model.specs.Calls.{Call, put, strikes, accepts, rejects, styles, undo, redo, show, find, count, change, save, Desk, Limits, writes, rewritten, moved, changed, turned, after}
 use Rattle.model.specs.Promise.{decided, open-only, As-it-was}
-use Rattle.model.proofs.Deciding.{pick-true, pick-false}
+use Rattle.model.proofs.Picks.{pick-true, pick-false}
 use Rattle.model.proofs.Looking.{seen-letters, seen-none, seen-first, unseen-first, seen-alike, decided-seen}
 
 seen-append : (k : ℕ) (xs ys : List Cell) → seen-letters k (xs ++ ys) ≡ seen-letters k xs ++ seen-letters k ys
@@ -46,25 +46,24 @@ unfolding author-of
 own-put-in cs zero a e = let h = eqb-true 0 (suc a) e in ne-eqb 0 0 (λ z. omega arith)
 own-put-in cs (suc m) a e = ne-eqb (suc m) 0 (omega arith)
 
+-- a cell y in place of x, or neither
+seen-or-gone : (t : Bool) (x y : Cell) (xs ys : List Cell) → (t ≡ true → seen 2 x ≡ false) → seen 2 y ≡ seen 2 x → y .letter ≡ x .letter → seen-letters 2 ys ≡ seen-letters 2 xs →
+    seen-letters 2 (pick t ys (y ∷ ys)) ≡ seen-letters 2 (x ∷ xs)
+seen-or-gone true x y xs ys g s l e = e ∙ sym (unseen-first 2 x xs (g refl))
+seen-or-gone false x y xs ys g s l e = seen-alike 2 x y xs ys s l e
+
 strike-seen : (xs : List Cell) (n : ℕ) (cs : List Change) (a c : ℕ) → seen-letters 2 (strike xs n cs a c) ≡ seen-letters 2 xs
 unfolding strike seen
 strike-seen [] n cs a c = refl
 strike-seen (x ∷ xs) zero cs a c = refl
-strike-seen (x ∷ xs) (suc n) cs a c = go (eqb (author-of cs (x .put-in)) (suc a)) refl (strike-seen xs n cs a c)
-  where
-    y : Cell
-    y = record { letter = x .letter; style = x .style; put-in = x .put-in; struck = pick (eqb (x .struck) 0) (suc c) (x .struck) }
-    go : (t : Bool) → eqb (author-of cs (x .put-in)) (suc a) ≡ t → seen-letters 2 (strike xs n cs a c) ≡ seen-letters 2 xs →
-        seen-letters 2 (pick (eqb (author-of cs (x .put-in)) (suc a)) (strike xs n cs a c) (y ∷ strike xs n cs a c)) ≡ seen-letters 2 (x ∷ xs)
-    go true e ih = ap (seen-letters 2) (pick-true _ _ _ e) ∙ (ih ∙ sym (unseen-first 2 x xs (own-put-in cs (x .put-in) a e)))
-    go false e ih = ap (seen-letters 2) (pick-false _ _ _ e) ∙ seen-alike 2 x y xs (strike xs n cs a c) refl refl ih
+strike-seen (x ∷ xs) (suc n) cs a c = seen-or-gone _ x _ xs (strike xs n cs a c) (own-put-in cs (x .put-in) a) refl refl (strike-seen xs n cs a c)
 
-styled-seen : (k : ℕ) (xs : List Cell) (n s : ℕ) → seen-letters 2 (styled xs n s) ≡ seen-letters 2 xs
+styled-seen : (xs : List Cell) (n s : ℕ) → seen-letters 2 (styled xs n s) ≡ seen-letters 2 xs
 unfolding styled seen
-styled-seen k [] n s = refl
-styled-seen k (x ∷ xs) zero s = refl
-styled-seen k (x ∷ xs) (suc n) s =
-    seen-alike 2 x (record { letter = x .letter; style = s; put-in = x .put-in; struck = x .struck }) xs (styled xs n s) refl refl (styled-seen k xs n s)
+styled-seen [] n s = refl
+styled-seen (x ∷ xs) zero s = refl
+styled-seen (x ∷ xs) (suc n) s =
+    seen-alike 2 x (record { letter = x .letter; style = s; put-in = x .put-in; struck = x .struck }) xs (styled xs n s) refl refl (styled-seen xs n s)
 
 kept : (l : Limits) (d : Desk) (c : Call) → open-only c ≡ true → seen-letters 2 (changed l d c .now .cells) ≡ seen-letters 2 (d .now .cells)
 unfolding open-only writes rewritten moved decided
@@ -72,7 +71,7 @@ kept l d (put a i s ls) h = seen-from 2 i (d .now .cells) _ (new-unseen ls s (le
 kept l d (strikes a i n) h = seen-from 2 i (d .now .cells) _ (strike-seen (drop i (d .now .cells)) n (d .now .changes) a (length (d .now .changes)))
 kept l d (accepts c) h = let z : _≡_ {A = ℕ} 0 1 = cc in absurd (omega arith)
 kept l d (rejects c) h = decided-seen false (d .now .cells) c
-kept l d (styles i n s) h = seen-from 2 i (d .now .cells) _ (styled-seen 2 (drop i (d .now .cells)) n s)
+kept l d (styles i n s) h = seen-from 2 i (d .now .cells) _ (styled-seen (drop i (d .now .cells)) n s)
 kept l d undo h = let z : _≡_ {A = ℕ} 0 1 = cc in absurd (omega arith)
 kept l d redo h = let z : _≡_ {A = ℕ} 0 1 = cc in absurd (omega arith)
 kept l d (show k w r n) h = refl

@@ -8,7 +8,8 @@ use lib.Dec.{eqb, leb}
 use Rattle.std.proofs.shelf.Tests.{eqb-true, eqb-false, eq-eqb, ne-eqb, leb-true, le-leb, and-parts, and-from}
 use Rattle.model.specs.Paper.{pick, Cell, seen, view, letters}
 use Rattle.model.specs.Promise.{decided, all-decided, below, As-if}
-use Rattle.model.proofs.Deciding.{pick-true, pick-false, cleared, goes, left, decided-goes, decided-left, decided-none}
+use Rattle.model.proofs.Picks.{pick-true, pick-false}
+use Rattle.model.proofs.Deciding.{cleared, goes, left, decided-goes, decided-left, decided-none}
 
 -- the letters that are seen in a way to look
 abbrev pub seen-letters : ℕ → List Cell → List ℕ
@@ -74,10 +75,10 @@ decided-seen a (x ∷ xs) c = go (goes a x c) refl (decided-seen a xs c)
         ap (seen-letters (way a)) (decided-left a x xs c e) ∙ seen-alike (way a) x (left a x c) xs (decided a xs c) (left-seen a x c) (left-letter a x c) ih
 
 -- the marks of a cell are of the first n changes
-abbrev Below : Cell → ℕ → Type 0
+abbrev pub Below : Cell → ℕ → Type 0
 Below x n = (x .put-in ≤ n) × (x .struck ≤ n)
 
-below-parts : (x : Cell) (xs : List Cell) (n : ℕ) → below (x ∷ xs) n ≡ true → (Below x n) × (below xs n ≡ true)
+pub below-parts : (x : Cell) (xs : List Cell) (n : ℕ) → below (x ∷ xs) n ≡ true → (Below x n) × (below xs n ≡ true)
 unfolding below
 below-parts x xs n e =
     let h = and-parts (leb (x .put-in) n && leb (x .struck) n) (below xs n) e in

@@ -1,5 +1,5 @@
 -- One step back brings the paper back, one step forward again brings the undone one back; a call that is turned away leaves the desk.
-use mathlib.Core.Path.{_≡_, refl, _∙_, ap, subst, subst⁻¹}
+use mathlib.Core.Path.{_≡_, refl, _∙_, ap, subst}
 use mathlib.Core.Bool.{Bool, true, false, _&&_}
 use mathlib.Core.List.{List, [], _∷_}
 use Prim.Native.Nat.{ℕ, zero, suc, _-_, _<_}
@@ -8,9 +8,10 @@ use lib.Dec.{eqb, leb}
 use lib.ListN.{length}
 use Rattle.std.proofs.shelf.Tests.{eqb-true, eqb-false, eq-eqb, ne-eqb, and-from}
 use Rattle.model.specs.Paper.{pick, Paper}
-use Rattle.model.specs.Calls.{Call, undo, redo, Desk, Before, Limits, call-number, good-fields, good-call, writes, rewritten, how-much, remembered, undone, redone, moved, changed, fits, turned-by, turned, after, answers}
+use Rattle.model.specs.Calls.{Call, undo, redo, Desk, Before, Limits, call-number, good-fields, good-call, writes, rewritten, how-much, remembered, undone, redone, moved, changed, fits, turned-by, turned, after, Answer, refused, told, place, answers}
 use Rattle.model.specs.Promise.{Undone, Turned-away}
-use Rattle.model.proofs.Deciding.{pick-true, pick-false}
+use Rattle.model.specs.Faults.{Nothing-to-redo}
+use Rattle.model.proofs.Picks.{pick-true, pick-false}
 
 -- a call is not turned away if it is good, there is nothing against it, and the paper after it fits
 free : (l : Limits) (d : Desk) (c : Call) → good-call l c ≡ true → turned-by d c ≡ 0 → fits l (rewritten (d .now) c) ≡ true → turned l d c ≡ 0
@@ -57,21 +58,32 @@ back-forward l d b bs can₅ can₆ f g e =
     let r = one-forward l (undone d (b ∷ bs)) (record { paper = d .now; much = b .much }) (d .future) can₆ g refl in
     (ap (λ (v : Desk). v .now) u, ap (λ (v : Desk). after l v redo .now) u ∙ ap (λ (v : Desk). v .now) r)
 
--- the desk after a call that writes
-abbrev wrote : Limits → Desk → Call → Desk
-wrote l d c = record { now = rewritten (d .now) c; past = remembered (l .undos) (record { paper = d .now; much = how-much (d .now) c } ∷ d .past); future = [] }
+-- the desk after a call that writes: the paper, what can be undone, what can be done again
+module _ (l : Limits) (d : Desk) (c : Call) (w : writes c ≡ true) (e : turned l d c ≡ 0) where
+  wrote-now : after l d c .now ≡ rewritten (d .now) c
+  wrote-now = ap (λ (v : Desk). v .now) (done l d c e ∙ pick-true (writes c) _ _ w)
 
-done-writing : (l : Limits) (d : Desk) (c : Call) → writes c ≡ true → turned l d c ≡ 0 → after l d c ≡ wrote l d c
-done-writing l d c w e = done l d c e ∙ pick-true (writes c) (wrote l d c) (moved l d c) w
+  wrote-past : after l d c .past ≡ remembered (l .undos) (record { paper = d .now; much = how-much (d .now) c } ∷ d .past)
+  wrote-past = ap (λ (v : Desk). v .past) (done l d c e ∙ pick-true (writes c) _ _ w)
+
+  wrote-future : after l d c .future ≡ []
+  wrote-future = ap (λ (v : Desk). v .future) (done l d c e ∙ pick-true (writes c) _ _ w)
 
 pub undone-redone : Undone
 unfolding Undone
 undone-redone l d c w f e h can₅ can₆ =
-    let a : after l d c ≡ wrote l d c = done-writing l d c w e in
+    let past = wrote-past l d c w e in
     let b : Before = record { paper = d .now; much = how-much (d .now) c } in
-    let past = latest (l .undos) b (d .past) (subst (λ (v : Desk). 0 < length (v .past)) a h) in
-    subst⁻¹ (λ (v : Desk). (after l v undo .now ≡ d .now) × (after l (after l v undo) redo .now ≡ v .now)) a
-        (back-forward l (wrote l d c) b _ can₅ can₆ (fits-after l d c e) f past)
+    let first = latest (l .undos) b (d .past) (subst (λ (v : List Before). 0 < length v) past h) in
+    back-forward l (after l d c) b _ can₅ can₆ (ap (fits l) (wrote-now l d c w e) ∙ fits-after l d c e) f (past ∙ first)
+
+pub nothing-to-redo : Nothing-to-redo
+unfolding Nothing-to-redo call-number good-fields turned-by place
+nothing-to-redo l d c w e can =
+    let b : Desk = after l d c in
+    let by : turned-by b redo ≡ 7 = pick-true _ _ _ (eq-eqb (length (b .future)) 0 (ap length (wrote-future l d c w e))) in
+    let t : turned l b redo ≡ 7 = pick-true _ _ _ (and-from _ _ can refl) ∙ (pick-false _ _ _ (ne-eqb (turned-by b redo) 0 (omega arith)) ∙ by) in
+    ap (λ v. pick (eqb v 0) (told b redo) (refused v (place redo v))) t
 
 pub turned-away : Turned-away
 unfolding Turned-away

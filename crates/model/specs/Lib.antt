@@ -3,3 +3,5 @@ pub mod Rows
 pub mod Calls
 pub mod Promise
 pub mod Values
+pub mod Orders
+pub mod Faults

@@ -1,4 +1,6 @@
 // The laws of changes: each is the contract of a function, and holds of every paper.
+ghost use Rattle.model.specs.Faults.{No-mark-left, Strike-then-reject, Put-then-reject, Nothing-to-redo};
+ghost use Rattle.model.specs.Orders.{Any-list-order};
 ghost use Rattle.model.specs.Promise.{One-reading, Any-order, As-if, As-it-was, Undone, Turned-away};
 
 // A file is read in one way only.
@@ -39,6 +41,41 @@ pub fn undone() -> u8
 // A call that is turned away changes nothing that can be told afterwards.
 pub fn turned_away() -> u8
     ensures { λ _. ⌜ Turned-away ⌝ }
+{
+    0
+}
+
+// It does not matter in which order any list of distinct changes is decided.
+pub fn any_list_order() -> u8
+    ensures { λ _. ⌜ Any-list-order ⌝ }
+{
+    0
+}
+
+// Once a change is decided, no cell has its mark.
+pub fn no_mark_left() -> u8
+    ensures { λ _. ⌜ No-mark-left ⌝ }
+{
+    0
+}
+
+// A strike at letters of others that is rejected leaves every cell as it was: what was struck out before stays with the first strike.
+pub fn strike_then_reject() -> u8
+    ensures { λ _. ⌜ Strike-then-reject ⌝ }
+{
+    0
+}
+
+// Letters that are put in and rejected leave every cell as it was.
+pub fn put_then_reject() -> u8
+    ensures { λ _. ⌜ Put-then-reject ⌝ }
+{
+    0
+}
+
+// After a call that writes there is nothing to redo.
+pub fn nothing_to_redo() -> u8
+    ensures { λ _. ⌜ Nothing-to-redo ⌝ }
 {
     0
 }
