@@ -8,7 +8,7 @@ use lib.Dec.{eqb}
 use Rattle.std.proofs.shelf.Tests.{ne-eqb, or-from}
 use Rattle.model.specs.Paper.{pick, Cell, accept, reject, touched}
 use Rattle.model.specs.Promise.{decided}
-use Rattle.model.specs.Faults.{No-mark-left}
+use Rattle.model.specs.Faults.{All-marks-gone}
 use Rattle.model.proofs.Picks.{pick-true, pick-false}
 
 cleared-away : (m c : ℕ) → eqb (pick (eqb m (suc c)) 0 m) (suc c) ≡ false
@@ -26,9 +26,9 @@ none-touched false y ys c h e =
     let k : _≡_ {A = ℕ} (pick (eqb (y .put-in) (suc c) || eqb (y .struck) (suc c)) 1 0) 0 = pick-false _ _ _ (h refl) in
     omega arith
 
-pub no-mark-left : No-mark-left
-unfolding No-mark-left decided accept reject touched
-no-mark-left true [] c = refl
-no-mark-left false [] c = refl
-no-mark-left true (x ∷ xs) c = none-touched (eqb (x .struck) (suc c)) _ (accept xs c) c (λ e. or-from _ _ (cleared-away (x .put-in) c) e) (no-mark-left true xs c)
-no-mark-left false (x ∷ xs) c = none-touched (eqb (x .put-in) (suc c)) _ (reject xs c) c (λ e. or-from _ _ e (cleared-away (x .struck) c)) (no-mark-left false xs c)
+pub all-marks-gone : All-marks-gone
+unfolding All-marks-gone decided accept reject touched
+all-marks-gone true [] c = refl
+all-marks-gone false [] c = refl
+all-marks-gone true (x ∷ xs) c = none-touched (eqb (x .struck) (suc c)) _ (accept xs c) c (λ e. or-from _ _ (cleared-away (x .put-in) c) e) (all-marks-gone true xs c)
+all-marks-gone false (x ∷ xs) c = none-touched (eqb (x .put-in) (suc c)) _ (reject xs c) c (λ e. or-from _ _ e (cleared-away (x .struck) c)) (all-marks-gone false xs c)

@@ -18,7 +18,7 @@ free : (l : Limits) (d : Desk) (c : Call) → good-call l c ≡ true → turned-
 free l d c g b f = pick-true _ _ _ g ∙ (pick-true _ _ _ (eq-eqb (turned-by d c) 0 b) ∙ pick-true _ _ _ f)
 
 -- the paper after a call that is not turned away fits
-fits-after : (l : Limits) (d : Desk) (c : Call) → turned l d c ≡ 0 → fits l (rewritten (d .now) c) ≡ true
+pub fits-after : (l : Limits) (d : Desk) (c : Call) → turned l d c ≡ 0 → fits l (rewritten (d .now) c) ≡ true
 fits-after l d c e = go (good-call l c) (eqb (turned-by d c) 0) (fits l (rewritten (d .now) c)) refl e
   where
     go : (g b f : Bool) → eqb (turned-by d c) 0 ≡ b → pick g (pick b (pick f 0 9) (turned-by d c)) 2 ≡ 0 → f ≡ true

@@ -10,8 +10,8 @@ use Rattle.model.specs.Calls.{Call, put, strikes, rejects, redo, Desk, Limits,
 use Rattle.model.specs.Promise.{decided, below}
 
 -- A mark is kept by a change that is gone. Here, once a change is decided, no cell has its mark.
-unfoldable pub No-mark-left : Type 0
-No-mark-left = (a : Bool) (xs : List Cell) (c : ℕ) → touched (decided a xs c) c ≡ 0
+unfoldable pub All-marks-gone : Type 0
+All-marks-gone = (a : Bool) (xs : List Cell) (c : ℕ) → touched (decided a xs c) c ≡ 0
 
 -- none of the cells was put in by an open change of author a
 unfoldable pub none-by : List Cell → List Change → ℕ → Bool

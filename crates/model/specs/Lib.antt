@@ -5,3 +5,4 @@ pub mod Promise
 pub mod Values
 pub mod Orders
 pub mod Faults
+pub mod Every

@@ -1,5 +1,6 @@
 // The laws of changes: each is the contract of a function, and holds of every paper.
-ghost use Rattle.model.specs.Faults.{No-mark-left, Strike-then-reject, Put-then-reject, Nothing-to-redo};
+ghost use Rattle.model.specs.Every.{Every-paper};
+ghost use Rattle.model.specs.Faults.{All-marks-gone, Strike-then-reject, Put-then-reject, Nothing-to-redo};
 ghost use Rattle.model.specs.Orders.{Any-list-order};
 ghost use Rattle.model.specs.Promise.{One-reading, Any-order, As-if, As-it-was, Undone, Turned-away};
 
@@ -53,8 +54,8 @@ pub fn any_list_order() -> u8
 }
 
 // Once a change is decided, no cell has its mark.
-pub fn no_mark_left() -> u8
-    ensures { λ _. ⌜ No-mark-left ⌝ }
+pub fn all_marks_gone() -> u8
+    ensures { λ _. ⌜ All-marks-gone ⌝ }
 {
     0
 }
@@ -76,6 +77,13 @@ pub fn put_then_reject() -> u8
 // After a call that writes there is nothing to redo.
 pub fn nothing_to_redo() -> u8
     ensures { λ _. ⌜ Nothing-to-redo ⌝ }
+{
+    0
+}
+
+// Every paper that calls make fits the limits, and every mark in it is of an open change.
+pub fn every_paper() -> u8
+    ensures { λ _. ⌜ Every-paper ⌝ }
 {
     0
 }

@@ -1,0 +1,5 @@
+use Rattle.model.proofs.Marks.{all-marks-gone}
+use Rattle.model.proofs.changes.all_marks_gone.Needs as need
+
+pub returns : need.returns
+returns c = all-marks-gone
