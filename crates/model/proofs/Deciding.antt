@@ -3,38 +3,38 @@ use mathlib.Core.Path.{_≡_, refl, sym, _∙_, ap}
 use mathlib.Core.Logic.{_≢_}
 use mathlib.Core.Bool.{Bool, true, false}
 use mathlib.Core.List.{List, [], _∷_}
-use Prim.Native.Nat.{ℕ, zero, suc}
+use Prim.Native.Nat.{ℕ, suc}
 use native.Mathlib.Omega.{arith}
 use lib.Dec.{eqb}
-use Rattle.std.proofs.shelf.Tests.{eqb-true, eqb-false, eq-eqb, ne-eqb}
+use Rattle.std.proofs.shelf.Tests.{eqb-true, ne-eqb}
 use Rattle.model.specs.Paper.{pick, Cell, accept, reject}
 use Rattle.model.specs.Promise.{decided, Any-order}
 use Rattle.model.proofs.Picks.{pick-true, pick-false}
 
 -- a mark, once change number c has none any more
-abbrev pub cleared : ℕ → ℕ → ℕ
+abbrev cleared : ℕ → ℕ → ℕ
 cleared m c = pick (eqb m (suc c)) 0 m
 
 -- the cell goes when change number c is accepted (true) or rejected (false), and else this is left of it
-abbrev pub goes : Bool → Cell → ℕ → Bool
+abbrev goes : Bool → Cell → ℕ → Bool
 goes true x c = eqb (x .struck) (suc c)
 goes false x c = eqb (x .put-in) (suc c)
 
-abbrev pub left : Bool → Cell → ℕ → Cell
+abbrev left : Bool → Cell → ℕ → Cell
 left true x c = record { letter = x .letter; style = x .style; put-in = cleared (x .put-in) c; struck = x .struck }
 left false x c = record { letter = x .letter; style = x .style; put-in = x .put-in; struck = cleared (x .struck) c }
 
-pub decided-goes : (a : Bool) (x : Cell) (xs : List Cell) (c : ℕ) → goes a x c ≡ true → decided a (x ∷ xs) c ≡ decided a xs c
+decided-goes : (a : Bool) (x : Cell) (xs : List Cell) (c : ℕ) → goes a x c ≡ true → decided a (x ∷ xs) c ≡ decided a xs c
 unfolding decided accept reject
 decided-goes true x xs c e = pick-true (goes true x c) _ _ e
 decided-goes false x xs c e = pick-true (goes false x c) _ _ e
 
-pub decided-left : (a : Bool) (x : Cell) (xs : List Cell) (c : ℕ) → goes a x c ≡ false → decided a (x ∷ xs) c ≡ left a x c ∷ decided a xs c
+decided-left : (a : Bool) (x : Cell) (xs : List Cell) (c : ℕ) → goes a x c ≡ false → decided a (x ∷ xs) c ≡ left a x c ∷ decided a xs c
 unfolding decided accept reject
 decided-left true x xs c e = pick-false (goes true x c) _ _ e
 decided-left false x xs c e = pick-false (goes false x c) _ _ e
 
-pub decided-none : (a : Bool) (c : ℕ) → decided a [] c ≡ []
+decided-none : (a : Bool) (c : ℕ) → decided a [] c ≡ []
 unfolding decided accept reject
 decided-none true c = refl
 decided-none false c = refl
@@ -82,6 +82,7 @@ any-order a b (x ∷ xs) c d ne = go (goes a x c) (goes b x d) refl refl (any-or
   where
     ne′ : d ≢ c
     ne′ = λ e. ne (sym e)
+
     go : (p q : Bool) → goes a x c ≡ p → goes b x d ≡ q → decided b (decided a xs c) d ≡ decided a (decided b xs d) c →
         decided b (decided a (x ∷ xs) c) d ≡ decided a (decided b (x ∷ xs) d) c
     go true true e f ih =

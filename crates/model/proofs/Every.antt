@@ -1,94 +1,21 @@
 -- What holds of the empty paper and stays with every call: it fits the limits, and every mark is of an open change.
-use mathlib.Core.Path.{_≡_, refl, sym, _∙_, ap}
+use mathlib.Core.Path.{_≡_, refl, _∙_, ap}
 use mathlib.Core.Logic.{_≢_, _⊎_, inl, inr}
-use mathlib.Core.Bool.{Bool, true, false, _&&_}
+use mathlib.Core.Bool.{Bool, true, false}
 use mathlib.Core.List.{List, [], _∷_, _++_}
 use Prim.Native.Nat.{ℕ, zero, suc, _-_, _≤_, _<_}
 use native.Mathlib.Omega.{arith}
 use lib.Dec.{eqb, leb}
-use lib.ListN.{length, getD, set, take, drop}
-use Rattle.std.proofs.shelf.Lists.{getD-append-left, getD-at, getD-set-other, getD-past, length-set, length-push}
-use Rattle.std.proofs.shelf.Tests.{eqb-true, eqb-false, eq-eqb, le-leb, and-from, cases-lt}
-use Rattle.model.specs.Paper.{pick, Cell, Change, Paper, new-cells, strike, styled, accept, reject}
+use lib.ListN.{length, getD, set}
+use Rattle.std.proofs.shelf.Lists.{getD-append-left, getD-at, getD-set-other, getD-past}
+use Rattle.std.proofs.shelf.Tests.{eqb-true, le-leb, and-from, cases-lt}
+use Rattle.model.specs.Paper.{pick, Cell, Change, Paper}
 use Rattle.model.specs.Calls.{Call, put, strikes, accepts, rejects, styles, undo, redo, show, find, count, change, save, Before, Desk, Limits, rewritten, writes, remembered, undone, redone, moved, changed, fits, turned, after, ran, new-desk}
-use Rattle.model.specs.Promise.{below, decided}
+use Rattle.model.specs.Promise.{decided}
 use Rattle.model.specs.Every.{open-mark, open-marks, Every-paper}
-use Rattle.model.proofs.Picks.{pick-true, pick-false}
+use Rattle.model.proofs.Picks.{pick-both}
+use Rattle.model.proofs.Marks.{Marks, marks-append, marks-drop, marks-from, marks-new, marks-strike, marks-styled, marks-map, marks-decided, marks-below}
 use Rattle.model.proofs.Undoing.{fits-after}
-
--- what holds of both holds of the one that is picked
-pick-both : {A : Type 0} (P : A → Type 0) (t : Bool) (a b : A) → P a → P b → P (pick t a b)
-pick-both P true a b p q = p
-pick-both P false a b p q = q
-
--- every mark of the cells is such
-abbrev Marks : (ℕ → Type 0) → List Cell → Type 0
-Marks M [] = Unit {0}
-Marks M (x ∷ xs) = (M (x .put-in) × M (x .struck)) × Marks M xs
-
-module _ (M : ℕ → Type 0) where
-  marks-append : (xs ys : List Cell) → Marks M xs → Marks M ys → Marks M (xs ++ ys)
-  marks-append [] ys h k = k
-  marks-append (x ∷ xs) ys h k = (h .0, marks-append xs ys (h .1) k)
-
-  marks-take : (i : ℕ) (xs : List Cell) → Marks M xs → Marks M (take i xs)
-  marks-take zero xs h = tt
-  marks-take (suc i) [] h = tt
-  marks-take (suc i) (x ∷ xs) h = (h .0, marks-take i xs (h .1))
-
-  marks-drop : (i : ℕ) (xs : List Cell) → Marks M xs → Marks M (drop i xs)
-  marks-drop zero xs h = h
-  marks-drop (suc i) [] h = tt
-  marks-drop (suc i) (x ∷ xs) h = marks-drop i xs (h .1)
-
-  -- other cells from place i on
-  marks-from : (i : ℕ) (xs zs : List Cell) → Marks M xs → Marks M zs → Marks M (take i xs ++ zs)
-  marks-from i xs zs h k = marks-append (take i xs) zs (marks-take i xs h) k
-
-  marks-new : (ls : List ℕ) (s c : ℕ) → M (suc c) → M 0 → Marks M (new-cells ls s c)
-  unfolding new-cells
-  marks-new [] s c p z = tt
-  marks-new (l ∷ ls) s c p z = ((p, z), marks-new ls s c p z)
-
-  -- a cell y that stays if the test fails
-  marks-pick : (t : Bool) (y : Cell) (ys : List Cell) → (t ≡ false → M (y .put-in) × M (y .struck)) → Marks M ys → Marks M (pick t ys (y ∷ ys))
-  marks-pick true y ys h k = k
-  marks-pick false y ys h k = (h refl, k)
-
-  marks-strike : (xs : List Cell) (n : ℕ) (cs : List Change) (a c : ℕ) → M (suc c) → Marks M xs → Marks M (strike xs n cs a c)
-  unfolding strike
-  marks-strike [] n cs a c p h = tt
-  marks-strike (x ∷ xs) zero cs a c p h = h
-  marks-strike (x ∷ xs) (suc n) cs a c p h =
-      marks-pick _ _ (strike xs n cs a c) (λ e. (h .0 .0, pick-both M (eqb (x .struck) 0) (suc c) (x .struck) p (h .0 .1))) (marks-strike xs n cs a c p (h .1))
-
-  marks-styled : (xs : List Cell) (n s : ℕ) → Marks M xs → Marks M (styled xs n s)
-  unfolding styled
-  marks-styled [] n s h = tt
-  marks-styled (x ∷ xs) zero s h = h
-  marks-styled (x ∷ xs) (suc n) s h = (h .0, marks-styled xs n s (h .1))
-
-marks-map : (M N : ℕ → Type 0) → ((m : ℕ) → M m → N m) → (xs : List Cell) → Marks M xs → Marks N xs
-marks-map M N f [] h = tt
-marks-map M N f (x ∷ xs) h = ((f (x .put-in) (h .0 .0), f (x .struck) (h .0 .1)), marks-map M N f xs (h .1))
-
--- after change number c is decided, the marks but for those of c
-module _ (M N : ℕ → Type 0) (c : ℕ) (none : N 0) (other : (m : ℕ) → m ≢ suc c → M m → N m) where
-  mark-cleared : (m : ℕ) → M m → N (pick (eqb m (suc c)) 0 m)
-  mark-cleared m h = go (eqb m (suc c)) refl
-    where
-      go : (t : Bool) → eqb m (suc c) ≡ t → N (pick t 0 m)
-      go true e = none
-      go false e = other m (eqb-false m (suc c) e) h
-
-  marks-decided : (a : Bool) (xs : List Cell) → Marks M xs → Marks N (decided a xs c)
-  unfolding decided accept reject
-  marks-decided true [] h = tt
-  marks-decided false [] h = tt
-  marks-decided true (x ∷ xs) h =
-      marks-pick N _ _ (accept xs c) (λ e. (mark-cleared (x .put-in) (h .0 .0), other (x .struck) (eqb-false (x .struck) (suc c) e) (h .0 .1))) (marks-decided true xs (h .1))
-  marks-decided false (x ∷ xs) h =
-      marks-pick N _ _ (reject xs c) (λ e. (other (x .put-in) (eqb-false (x .put-in) (suc c) e) (h .0 .0), mark-cleared (x .struck) (h .0 .1))) (marks-decided false xs (h .1))
 
 -- the mark of an open change
 abbrev Open : List Change → ℕ → Type 0
@@ -130,7 +57,7 @@ All-open p = Marks (Open (p .changes)) (p .cells)
 
 still-open : (p : Paper) (c : Call) → All-open p → All-open (rewritten p c)
 unfolding rewritten decided
-still-open p (put a i s ls) h = 
+still-open p (put a i s ls) h =
     let cs : List Change = p .changes ++ (record { author = a; became = 0 } ∷ []) in
     let k = marks-map (Open (p .changes)) (Open cs) (open-more (p .changes) _) (p .cells) h in
     marks-from (Open cs) i (p .cells) _ k (marks-append (Open cs) _ _ (marks-new (Open cs) ls s (length (p .changes)) (open-last (p .changes) a) (open-none cs)) (marks-drop (Open cs) i (p .cells) k))
@@ -204,11 +131,6 @@ unfolding ran
 good-ran l [] d g = g
 good-ran l (c ∷ cs) d g = good-ran l cs (after l d c) (good-after l d c g)
 
-all-below : (xs : List Cell) (n : ℕ) → Marks (λ m. m ≤ n) xs → below xs n ≡ true
-unfolding below
-all-below [] n h = refl
-all-below (x ∷ xs) n h = and-from _ _ (and-from _ _ (le-leb _ _ (h .0 .0)) (le-leb _ _ (h .0 .1))) (all-below xs n (h .1))
-
 all-open : (xs : List Cell) (cs : List Change) → Marks (Open cs) xs → open-marks xs cs ≡ true
 unfolding open-marks
 all-open [] cs h = refl
@@ -218,7 +140,8 @@ pub every-paper : Every-paper
 unfolding Every-paper
 every-paper l cs =
     let p : Paper = ran l new-desk cs .now in
-    let g = good-ran l cs new-desk ((and-from _ _ (le-leb 0 (l .cells) (omega arith)) (le-leb 0 (l .changes) (omega arith)), tt), tt, tt) in
-    ( g .0 .0
-    , all-below (p .cells) (length (p .changes)) (marks-map (Open (p .changes)) (λ m. m ≤ length (p .changes)) (open-below (p .changes)) (p .cells) (g .0 .1))
-    , all-open (p .cells) (p .changes) (g .0 .1) )
+    let g = good-ran l cs new-desk ((and-from _ _ (le-leb 0 (l .cells) (omega arith)) (le-leb 0 (l .changes) (omega arith)), tt), tt, tt) in (
+      g .0 .0,
+      marks-below (p .cells) (length (p .changes)) (marks-map (Open (p .changes)) (λ m. m ≤ length (p .changes)) (open-below (p .changes)) (p .cells) (g .0 .1)),
+      all-open (p .cells) (p .changes) (g .0 .1),
+    )

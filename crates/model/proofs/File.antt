@@ -1,10 +1,10 @@
 -- A paper's file tells its changes and cells: two papers with the same file are one paper.
-use mathlib.Core.Path.{_≡_, refl, ap}
+use mathlib.Core.Path.{_≡_, refl}
 use mathlib.Core.List.{List, [], _∷_, _++_}
-use Prim.Native.Nat.{ℕ, zero, suc}
+use Prim.Native.Nat.{ℕ}
 use native.Mathlib.Omega.{arith}
 use lib.ListN.{length}
-use Rattle.model.specs.Paper.{Cell, Change, Paper, cells-written, changes-written, written}
+use Rattle.model.specs.Paper.{Cell, Change, Paper, cells-written, changes-written}
 use Rattle.model.specs.Promise.{One-reading}
 
 same-cell : (x y : Cell) → x .letter ≡ y .letter → x .style ≡ y .style → x .put-in ≡ y .put-in → x .struck ≡ y .struck → x ≡ y

@@ -2,17 +2,16 @@
 use mathlib.Core.Path.{_≡_, refl, sym, _∙_, ap}
 use mathlib.Core.Bool.{Bool, true, false}
 use mathlib.Core.List.{List, [], _∷_, _++_}
-use Prim.Native.Nat.{ℕ, zero, suc, _+_}
+use Prim.Native.Nat.{ℕ, zero, suc}
 use native.Mathlib.Omega.{arith}
 use lib.Dec.{eqb}
 use lib.ListN.{length, take, drop}
 use Rattle.std.proofs.shelf.Lists.{take-append-drop}
-use Rattle.std.proofs.shelf.Tests.{eqb-true, eqb-false, ne-eqb}
-use Rattle.model.specs.Paper.{pick, Cell, Change, new-cells, author-of, strike, styled, reject, seen, view, letters}
-use Rattle.model.specs.Calls.{Call, put, strikes, accepts, rejects, styles, undo, redo, show, find, count, change, save, Desk, Limits, writes, rewritten, moved, changed, turned, after}
+use Rattle.std.proofs.shelf.Tests.{eqb-true, ne-eqb}
+use Rattle.model.specs.Paper.{pick, Cell, Change, new-cells, author-of, strike, styled, seen}
+use Rattle.model.specs.Calls.{Call, put, strikes, accepts, rejects, styles, undo, redo, show, find, count, change, save, Desk, Limits, writes, rewritten, moved, changed, turned}
 use Rattle.model.specs.Promise.{decided, open-only, As-it-was}
-use Rattle.model.proofs.Picks.{pick-true, pick-false}
-use Rattle.model.proofs.Looking.{seen-letters, seen-none, seen-first, unseen-first, seen-alike, decided-seen}
+use Rattle.model.proofs.Looking.{seen-letters, seen-none, seen-first, unseen-first, seen-alike, seen-or-gone, decided-seen}
 
 seen-append : (k : ℕ) (xs ys : List Cell) → seen-letters k (xs ++ ys) ≡ seen-letters k xs ++ seen-letters k ys
 seen-append k [] ys = ap (λ (v : List ℕ). v ++ seen-letters k ys) (sym (seen-none k))
@@ -46,17 +45,11 @@ unfolding author-of
 own-put-in cs zero a e = let h = eqb-true 0 (suc a) e in ne-eqb 0 0 (λ z. omega arith)
 own-put-in cs (suc m) a e = ne-eqb (suc m) 0 (omega arith)
 
--- a cell y in place of x, or neither
-seen-or-gone : (t : Bool) (x y : Cell) (xs ys : List Cell) → (t ≡ true → seen 2 x ≡ false) → seen 2 y ≡ seen 2 x → y .letter ≡ x .letter → seen-letters 2 ys ≡ seen-letters 2 xs →
-    seen-letters 2 (pick t ys (y ∷ ys)) ≡ seen-letters 2 (x ∷ xs)
-seen-or-gone true x y xs ys g s l e = e ∙ sym (unseen-first 2 x xs (g refl))
-seen-or-gone false x y xs ys g s l e = seen-alike 2 x y xs ys s l e
-
 strike-seen : (xs : List Cell) (n : ℕ) (cs : List Change) (a c : ℕ) → seen-letters 2 (strike xs n cs a c) ≡ seen-letters 2 xs
 unfolding strike seen
 strike-seen [] n cs a c = refl
 strike-seen (x ∷ xs) zero cs a c = refl
-strike-seen (x ∷ xs) (suc n) cs a c = seen-or-gone _ x _ xs (strike xs n cs a c) (own-put-in cs (x .put-in) a) refl refl (strike-seen xs n cs a c)
+strike-seen (x ∷ xs) (suc n) cs a c = seen-or-gone 2 _ x _ xs (strike xs n cs a c) (own-put-in cs (x .put-in) a) refl refl (strike-seen xs n cs a c)
 
 styled-seen : (xs : List Cell) (n s : ℕ) → seen-letters 2 (styled xs n s) ≡ seen-letters 2 xs
 unfolding styled seen

@@ -1,34 +1,114 @@
--- A change that was decided has no mark left.
-use mathlib.Core.Path.{_≡_, refl, _∙_, ap}
+-- What holds of all marks of some cells, and what each act on the cells does to it; a change that was decided has no mark left.
+use mathlib.Core.Path.{_≡_, refl}
+use mathlib.Core.Logic.{_≢_}
 use mathlib.Core.Bool.{Bool, true, false, _||_}
-use mathlib.Core.List.{List, [], _∷_}
-use Prim.Native.Nat.{ℕ, suc, _+_}
+use mathlib.Core.List.{List, [], _∷_, _++_}
+use Prim.Native.Nat.{ℕ, zero, suc, _≤_}
 use native.Mathlib.Omega.{arith}
 use lib.Dec.{eqb}
-use Rattle.std.proofs.shelf.Tests.{ne-eqb, or-from}
-use Rattle.model.specs.Paper.{pick, Cell, accept, reject, touched}
-use Rattle.model.specs.Promise.{decided}
+use lib.ListN.{take, drop}
+use Rattle.std.proofs.shelf.Tests.{eqb-false, ne-eqb, leb-true, le-leb, and-parts, and-from, or-from}
+use Rattle.model.specs.Paper.{pick, Cell, Change, new-cells, strike, styled, accept, reject, touched}
+use Rattle.model.specs.Promise.{decided, below}
 use Rattle.model.specs.Faults.{All-marks-gone}
-use Rattle.model.proofs.Picks.{pick-true, pick-false}
+use Rattle.model.proofs.Picks.{pick-false, pick-both}
 
-cleared-away : (m c : ℕ) → eqb (pick (eqb m (suc c)) 0 m) (suc c) ≡ false
-cleared-away m c = go (eqb m (suc c)) refl
-  where
-    go : (t : Bool) → eqb m (suc c) ≡ t → eqb (pick (eqb m (suc c)) 0 m) (suc c) ≡ false
-    go true e = ap (λ v. eqb v (suc c)) (pick-true (eqb m (suc c)) 0 m e) ∙ ne-eqb 0 (suc c) (omega arith)
-    go false e = ap (λ v. eqb v (suc c)) (pick-false (eqb m (suc c)) 0 m e) ∙ e
+-- every mark of the cells is such
+abbrev pub Marks : (ℕ → Type 0) → List Cell → Type 0
+Marks M [] = Unit {0}
+Marks M (x ∷ xs) = (M (x .put-in) × M (x .struck)) × Marks M xs
 
--- a cell y that stays if the test fails
-none-touched : (t : Bool) (y : Cell) (ys : List Cell) (c : ℕ) → (t ≡ false → (eqb (y .put-in) (suc c) || eqb (y .struck) (suc c)) ≡ false) → touched ys c ≡ 0 → touched (pick t ys (y ∷ ys)) c ≡ 0
+module _ (M : ℕ → Type 0) where
+  pub marks-append : (xs ys : List Cell) → Marks M xs → Marks M ys → Marks M (xs ++ ys)
+  marks-append [] ys h k = k
+  marks-append (x ∷ xs) ys h k = (h .0, marks-append xs ys (h .1) k)
+
+  pub marks-take : (i : ℕ) (xs : List Cell) → Marks M xs → Marks M (take i xs)
+  marks-take zero xs h = tt
+  marks-take (suc i) [] h = tt
+  marks-take (suc i) (x ∷ xs) h = (h .0, marks-take i xs (h .1))
+
+  pub marks-drop : (i : ℕ) (xs : List Cell) → Marks M xs → Marks M (drop i xs)
+  marks-drop zero xs h = h
+  marks-drop (suc i) [] h = tt
+  marks-drop (suc i) (x ∷ xs) h = marks-drop i xs (h .1)
+
+  -- other cells from place i on
+  pub marks-from : (i : ℕ) (xs zs : List Cell) → Marks M xs → Marks M zs → Marks M (take i xs ++ zs)
+  marks-from i xs zs h k = marks-append (take i xs) zs (marks-take i xs h) k
+
+  pub marks-new : (ls : List ℕ) (s c : ℕ) → M (suc c) → M 0 → Marks M (new-cells ls s c)
+  unfolding new-cells
+  marks-new [] s c p z = tt
+  marks-new (l ∷ ls) s c p z = ((p, z), marks-new ls s c p z)
+
+  -- a cell y that stays if the test fails
+  marks-pick : (t : Bool) (y : Cell) (ys : List Cell) → (t ≡ false → M (y .put-in) × M (y .struck)) → Marks M ys → Marks M (pick t ys (y ∷ ys))
+  marks-pick true y ys h k = k
+  marks-pick false y ys h k = (h refl, k)
+
+  pub marks-strike : (xs : List Cell) (n : ℕ) (cs : List Change) (a c : ℕ) → M (suc c) → Marks M xs → Marks M (strike xs n cs a c)
+  unfolding strike
+  marks-strike [] n cs a c p h = tt
+  marks-strike (x ∷ xs) zero cs a c p h = h
+  marks-strike (x ∷ xs) (suc n) cs a c p h =
+      marks-pick _ _ (strike xs n cs a c) (λ e. (h .0 .0, pick-both M (eqb (x .struck) 0) _ _ p (h .0 .1))) (marks-strike xs n cs a c p (h .1))
+
+  pub marks-styled : (xs : List Cell) (n s : ℕ) → Marks M xs → Marks M (styled xs n s)
+  unfolding styled
+  marks-styled [] n s h = tt
+  marks-styled (x ∷ xs) zero s h = h
+  marks-styled (x ∷ xs) (suc n) s h = (h .0, marks-styled xs n s (h .1))
+
+pub marks-map : (M N : ℕ → Type 0) → ((m : ℕ) → M m → N m) → (xs : List Cell) → Marks M xs → Marks N xs
+marks-map M N f [] h = tt
+marks-map M N f (x ∷ xs) h = ((f (x .put-in) (h .0 .0), f (x .struck) (h .0 .1)), marks-map M N f xs (h .1))
+
+pub marks-any : (xs : List Cell) → Marks (λ m. Unit {0}) xs
+marks-any [] = tt
+marks-any (x ∷ xs) = ((tt, tt), marks-any xs)
+
+-- after change number c is decided: no mark, or the marks but for those of c
+module _ (M N : ℕ → Type 0) (c : ℕ) (none : N 0) (other : (m : ℕ) → m ≢ suc c → M m → N m) where
+  mark-cleared : (m : ℕ) → M m → N (pick (eqb m (suc c)) 0 m)
+  mark-cleared m h = go (eqb m (suc c)) refl
+    where
+      go : (t : Bool) → eqb m (suc c) ≡ t → N (pick t 0 m)
+      go true e = none
+      go false e = other m (eqb-false m (suc c) e) h
+
+  pub marks-decided : (a : Bool) (xs : List Cell) → Marks M xs → Marks N (decided a xs c)
+  unfolding decided accept reject
+  marks-decided true [] h = tt
+  marks-decided false [] h = tt
+  marks-decided true (x ∷ xs) h =
+      marks-pick N _ _ (accept xs c) (λ e. (mark-cleared (x .put-in) (h .0 .0), other (x .struck) (eqb-false (x .struck) (suc c) e) (h .0 .1))) (marks-decided true xs (h .1))
+  marks-decided false (x ∷ xs) h =
+      marks-pick N _ _ (reject xs c) (λ e. (other (x .put-in) (eqb-false (x .put-in) (suc c) e) (h .0 .0), mark-cleared (x .struck) (h .0 .1))) (marks-decided false xs (h .1))
+
+-- every mark is of one of the first n changes
+pub below-marks : (xs : List Cell) (n : ℕ) → below xs n ≡ true → Marks (λ m. m ≤ n) xs
+unfolding below
+below-marks [] n h = tt
+below-marks (x ∷ xs) n h =
+    let k = and-parts _ _ h in
+    let m = and-parts _ _ (k .0) in
+    ((leb-true _ _ (m .0), leb-true _ _ (m .1)), below-marks xs n (k .1))
+
+pub marks-below : (xs : List Cell) (n : ℕ) → Marks (λ m. m ≤ n) xs → below xs n ≡ true
+unfolding below
+marks-below [] n h = refl
+marks-below (x ∷ xs) n h = and-from _ _ (and-from _ _ (le-leb _ _ (h .0 .0)) (le-leb _ _ (h .0 .1))) (marks-below xs n (h .1))
+
+untouched : (xs : List Cell) (c : ℕ) → Marks (λ m. eqb m (suc c) ≡ false) xs → touched xs c ≡ 0
 unfolding touched
-none-touched true y ys c h e = e
-none-touched false y ys c h e =
-    let k : _≡_ {A = ℕ} (pick (eqb (y .put-in) (suc c) || eqb (y .struck) (suc c)) 1 0) 0 = pick-false _ _ _ (h refl) in
+untouched [] c h = refl
+untouched (x ∷ xs) c h =
+    let e = untouched xs c (h .1) in
+    let k : _≡_ {A = ℕ} (pick (eqb (x .put-in) (suc c) || eqb (x .struck) (suc c)) 1 0) 0 = pick-false _ _ _ (or-from _ _ (h .0 .0) (h .0 .1)) in
     omega arith
 
 pub all-marks-gone : All-marks-gone
-unfolding All-marks-gone decided accept reject touched
-all-marks-gone true [] c = refl
-all-marks-gone false [] c = refl
-all-marks-gone true (x ∷ xs) c = none-touched (eqb (x .struck) (suc c)) _ (accept xs c) c (λ e. or-from _ _ (cleared-away (x .put-in) c) e) (all-marks-gone true xs c)
-all-marks-gone false (x ∷ xs) c = none-touched (eqb (x .put-in) (suc c)) _ (reject xs c) c (λ e. or-from _ _ e (cleared-away (x .struck) c)) (all-marks-gone false xs c)
+unfolding All-marks-gone
+all-marks-gone a xs c =
+    untouched _ c (marks-decided (λ m. Unit {0}) (λ m. eqb m (suc c) ≡ false) c (ne-eqb 0 (suc c) (omega arith)) (λ m ne h. ne-eqb m (suc c) ne) a xs (marks-any xs))

@@ -3,18 +3,18 @@ use mathlib.Core.Path.{_≡_, refl, sym, _∙_, ap}
 use mathlib.Core.Logic.{_≢_}
 use mathlib.Core.Bool.{Bool, true, false, not, _&&_, _||_}
 use mathlib.Core.List.{List, [], _∷_}
-use Prim.Native.Nat.{ℕ, zero, suc, _≤_}
+use Prim.Native.Nat.{ℕ, suc, _≤_}
 use native.Mathlib.Omega.{arith}
 use lib.Dec.{eqb, ltb, leb}
 use lib.ListN.{length, getD, set}
 use Rattle.std.proofs.shelf.Lists.{length-set, getD-set-other, set-comm}
 use Rattle.std.proofs.shelf.Tests.{eqb-true, eq-eqb, ne-eqb, leb-true, le-leb, and-parts, and-from, not-true, or-parts, eqb-false}
-use Rattle.model.specs.Paper.{pick, Cell, Change, Paper}
-use Rattle.model.specs.Calls.{Call, accepts, rejects, Desk, Limits, call-number, good-fields, became, turned-by, with-became, rewritten, writes, fits, turned, after, ran}
+use Rattle.model.specs.Paper.{pick, Cell, Change, Paper, accept, reject}
+use Rattle.model.specs.Calls.{accepts, rejects, Desk, Limits, call-number, good-fields, became, turned-by, with-became, rewritten, writes, fits, after, ran}
 use Rattle.model.specs.Promise.{decided, Any-order}
 use Rattle.model.specs.Orders.{Decision, call-of, calls-of, all-done, all-rewritten, decides, distinct, Reordered, same, skip, swap, trans, Any-list-order}
 use Rattle.model.proofs.Picks.{pick-true, pick-false}
-use Rattle.model.proofs.Deciding.{goes, left, decided-goes, decided-left, decided-none, any-order}
+use Rattle.model.proofs.Deciding.{any-order}
 
 eqb-swap : (a b : ℕ) → eqb a b ≡ eqb b a
 eqb-swap a b = go (eqb a b) refl
@@ -69,7 +69,6 @@ run step (d ∷ ds) s = run step ds (step s d)
 
 module _ {S : Type 0} (Inv : S → Type 0) (step : S → Decision → S) (keeps : (s : S) (d : Decision) → Inv s → Inv (step s d))
     (commutes : (s : S) (d e : Decision) → Inv s → d .change ≢ e .change → step (step s d) e ≡ step (step s e) d) where
-
   same-end : {ds es : List Decision} → Reordered ds es → distinct ds ≡ true → (s : S) → Inv s → run step ds s ≡ run step es s
   unfolding distinct
   same-end same h s i = refl
@@ -138,13 +137,16 @@ unfolding on-desk
 made-off l p d e = pick-false (made l p d) _ _ e
 
 -- deciding leaves no more cells than there were, and as many changes
+shorter-pick : (t : Bool) (y : Cell) (ys : List Cell) (n : ℕ) → length ys ≤ n → length (pick t ys (y ∷ ys)) ≤ suc n
+shorter-pick true y ys n h = omega arith
+shorter-pick false y ys n h = omega arith
+
 shorter : (a : Bool) (xs : List Cell) (c : ℕ) → length (decided a xs c) ≤ length xs
-shorter a [] c = let e = ap length (decided-none a c) in omega arith
-shorter a (x ∷ xs) c = go (goes a x c) refl (shorter a xs c)
-  where
-    go : (t : Bool) → goes a x c ≡ t → length (decided a xs c) ≤ length xs → length (decided a (x ∷ xs) c) ≤ length (x ∷ xs)
-    go true e ih = let k = ap length (decided-goes a x xs c e) in omega arith
-    go false e ih = let k = ap length (decided-left a x xs c e) in omega arith
+unfolding decided accept reject
+shorter true [] c = omega arith
+shorter false [] c = omega arith
+shorter true (x ∷ xs) c = shorter-pick _ _ (accept xs c) (length xs) (shorter true xs c)
+shorter false (x ∷ xs) c = shorter-pick _ _ (reject xs c) (length xs) (shorter false xs c)
 
 fits-on : (l : Limits) (p : Paper) (d : Decision) → fits l p ≡ true → fits l (on-paper p d) ≡ true
 unfolding on-paper on-cells
@@ -169,6 +171,7 @@ made-still l p d e ne = go (made l p d)
   where
     ne′ : e .change ≢ d .change
     ne′ = λ k. ne (sym k)
+
     go : (t : Bool) → made l (pick t (on-paper p d) p) e ≡ made l p e
     go true = simp length-set (ap (λ (v : Change). l .calls-can (call-number (call-of e)) && (ltb (e .change) (length (p .changes)) && eqb (v .became) 0)) (getD-set-other (p .changes) (d .change) (e .change) _ _ ne′))
     go false = refl
@@ -178,6 +181,7 @@ desks-commute l p d e f ne = go (made l p d) (made l p e) refl refl
   where
     ne′ : e .change ≢ d .change
     ne′ = λ k. ne (sym k)
+
     go : (s t : Bool) → made l p d ≡ s → made l p e ≡ t → on-desk l (on-desk l p d) e ≡ on-desk l (on-desk l p e) d
     go true true h k =
         let e₁ = made-on l p d h in
@@ -210,8 +214,10 @@ after-is l b d f = go (d .accepts)
   where
     p : Paper
     p = b .now
+
     with : Bool → Decision
     with a = record { change = d .change; accepts = a }
+
     go : (a : Bool) → after l b (call-of (with a)) .now ≡ on-desk l p (with a)
     go true = all-checks (l .calls-can 2) (ltb (d .change) (length (p .changes))) (eqb (became p (d .change)) 0) (fits l (rewritten p (accepts (d .change)))) _ b (fits-on l p (with true) f)
     go false = all-checks (l .calls-can 3) (ltb (d .change) (length (p .changes))) (eqb (became p (d .change)) 0) (fits l (rewritten p (rejects (d .change)))) _ b (fits-on l p (with false) f)
@@ -225,7 +231,8 @@ ran-run l (d ∷ ds) b f =
 
 pub any-list-order : Any-list-order
 unfolding Any-list-order
-any-list-order ds es r h =
-    ( λ xs. done-run ds xs ∙ (same-end (λ s. Unit {0}) on-cells (λ s d i. tt) cells-commute r h xs tt ∙ sym (done-run es xs))
-    , λ p. rewritten-run ds p ∙ (same-end (λ s. Unit {0}) on-paper (λ s d i. tt) papers-commute r h p tt ∙ sym (rewritten-run es p))
-    , λ l b f. ran-run l ds b f ∙ (same-end (λ p. fits l p ≡ true) (on-desk l) (fits-kept l) (desks-commute l) r h (b .now) f ∙ sym (ran-run l es b f)) )
+any-list-order ds es r h = (
+  λ xs. done-run ds xs ∙ (same-end (λ s. Unit {0}) on-cells (λ s d i. tt) cells-commute r h xs tt ∙ sym (done-run es xs)),
+  λ p. rewritten-run ds p ∙ (same-end (λ s. Unit {0}) on-paper (λ s d i. tt) papers-commute r h p tt ∙ sym (rewritten-run es p)),
+  λ l b f. ran-run l ds b f ∙ (same-end (λ p. fits l p ≡ true) (on-desk l) (fits-kept l) (desks-commute l) r h (b .now) f ∙ sym (ran-run l es b f)),
+)

@@ -1,19 +1,18 @@
 -- A change that is made and then rejected leaves the cells as they were.
-use mathlib.Core.Path.{_≡_, refl, sym, _∙_, ap}
-use mathlib.Core.Bool.{Bool, true, false, not, _&&_}
+use mathlib.Core.Path.{_≡_, refl, _∙_, ap}
+use mathlib.Core.Bool.{Bool, true, false}
 use mathlib.Core.List.{List, [], _∷_, _++_}
 use Prim.Native.Nat.{ℕ, zero, suc, _≤_}
 use native.Mathlib.Omega.{arith}
 use lib.Dec.{eqb}
-use lib.ListN.{length, getD, set, take, drop}
+use lib.ListN.{length, set, take, drop}
 use Rattle.std.proofs.shelf.Lists.{take-append-drop, set-at, getD-at}
-use Rattle.std.proofs.shelf.Tests.{eqb-true, eqb-false, eq-eqb, ne-eqb, and-parts, and-from, not-true}
-use Rattle.model.specs.Paper.{pick, Cell, Change, Paper, new-cells, author-of, strike, reject}
-use Rattle.model.specs.Calls.{put, strikes, rejects, with-became, rewritten}
-use Rattle.model.specs.Promise.{below}
+use Rattle.std.proofs.shelf.Tests.{eq-eqb, ne-eqb, and-parts, not-true}
+use Rattle.model.specs.Paper.{pick, Cell, Change, Paper, new-cells, strike, reject}
+use Rattle.model.specs.Calls.{rejects, with-became, rewritten}
 use Rattle.model.specs.Faults.{none-by, with-rejected, Strike-then-reject, Put-then-reject}
 use Rattle.model.proofs.Picks.{pick-true, pick-false}
-use Rattle.model.proofs.Looking.{Below, below-parts}
+use Rattle.model.proofs.Marks.{Marks, marks-take, marks-drop, below-marks}
 
 abbrev unmarked-by : Cell → ℕ → Cell
 unmarked-by x c = record { letter = x .letter; style = x .style; put-in = x .put-in; struck = pick (eqb (x .struck) (suc c)) 0 (x .struck) }
@@ -37,25 +36,13 @@ reject-first x y ys c h e = pick-false _ _ _ (ne-eqb (y .put-in) (suc c) (omega 
 restruck : (x : Cell) (m : ℕ) → m ≡ x .struck → _≡_ {A = Cell} (record { letter = x .letter; style = x .style; put-in = x .put-in; struck = m }) x
 restruck x m e = λ i. record { letter = x .letter; style = x .style; put-in = x .put-in; struck = e i }
 
-reject-unmarked : (xs : List Cell) (c : ℕ) → below xs c ≡ true → reject xs c ≡ xs
+reject-unmarked : (xs : List Cell) (c : ℕ) → Marks (λ m. m ≤ c) xs → reject xs c ≡ xs
 unfolding reject
 reject-unmarked [] c h = refl
 reject-unmarked (x ∷ xs) c h =
-    let k = below-parts x xs c h in
-    reject-first x x xs c (k .0 .0) (restruck x _ (pick-false _ _ _ (ne-eqb (x .struck) (suc c) (let b = k .0 .1 in omega arith))))
-    ∙ ap (λ (v : List Cell). x ∷ v) (reject-unmarked xs c (k .1))
-
-below-take : (i : ℕ) (xs : List Cell) (c : ℕ) → below xs c ≡ true → below (take i xs) c ≡ true
-unfolding below
-below-take zero xs c h = refl
-below-take (suc i) [] c h = refl
-below-take (suc i) (x ∷ xs) c h = let k = and-parts _ _ h in and-from _ _ (k .0) (below-take i xs c (k .1))
-
-below-drop : (i : ℕ) (xs : List Cell) (c : ℕ) → below xs c ≡ true → below (drop i xs) c ≡ true
-unfolding below
-below-drop zero xs c h = h
-below-drop (suc i) [] c h = refl
-below-drop (suc i) (x ∷ xs) c h = below-drop i xs c (and-parts _ _ h .1)
+    let b : x .struck ≤ c = h .0 .1 in
+    reject-first x x xs c (h .0 .0) (restruck x _ (pick-false _ _ _ (ne-eqb (x .struck) (suc c) (omega arith))))
+    ∙ ap (λ (v : List Cell). x ∷ v) (reject-unmarked xs c (h .1))
 
 -- the mark of change number c goes again from what it struck first, and only from that
 first-strike : (m c : ℕ) → m ≤ c → pick (eqb (pick (eqb m 0) (suc c) m) (suc c)) 0 (pick (eqb m 0) (suc c) m) ≡ m
@@ -64,16 +51,15 @@ first-strike (suc m) c h =
     let e : pick (eqb (suc m) 0) (suc c) (suc m) ≡ suc m = pick-false _ _ _ (ne-eqb (suc m) 0 (omega arith)) in
     ap (λ v. pick (eqb v (suc c)) 0 v) e ∙ pick-false _ _ _ (ne-eqb (suc m) (suc c) (omega arith))
 
-strike-reject : (xs : List Cell) (n : ℕ) (cs : List Change) (a c : ℕ) → below xs c ≡ true → none-by (take n xs) cs a ≡ true → reject (strike xs n cs a c) c ≡ xs
+strike-reject : (xs : List Cell) (n : ℕ) (cs : List Change) (a c : ℕ) → Marks (λ m. m ≤ c) xs → none-by (take n xs) cs a ≡ true → reject (strike xs n cs a c) c ≡ xs
 unfolding strike none-by reject
 strike-reject [] n cs a c h o = refl
 strike-reject (x ∷ xs) zero cs a c h o = reject-unmarked (x ∷ xs) c h
 strike-reject (x ∷ xs) (suc n) cs a c h o =
-    let k = below-parts x xs c h in
     let others = and-parts _ _ o in
     ap (λ (v : List Cell). reject v c) (pick-false _ _ _ (not-true _ (others .0)))
-    ∙ (reject-first x _ (strike xs n cs a c) c (k .0 .0) (restruck x _ (first-strike (x .struck) c (k .0 .1)))
-    ∙ ap (λ (v : List Cell). x ∷ v) (strike-reject xs n cs a c (k .1) (others .1)))
+    ∙ (reject-first x _ (strike xs n cs a c) c (h .0 .0) (restruck x _ (first-strike (x .struck) c (h .0 .1)))
+    ∙ ap (λ (v : List Cell). x ∷ v) (strike-reject xs n cs a c (h .1) (others .1)))
 
 new-reject : (ls : List ℕ) (s c : ℕ) (xs : List Cell) → reject (new-cells ls s c ++ xs) c ≡ reject xs c
 unfolding new-cells reject
@@ -81,10 +67,10 @@ new-reject [] s c xs = refl
 new-reject (l ∷ ls) s c xs = pick-true _ _ _ (eq-eqb (suc c) (suc c) refl) ∙ new-reject ls s c xs
 
 -- cells from place i on, of which rejecting leaves those that stood there
-rejected-from : (i : ℕ) (xs zs : List Cell) (c : ℕ) → below xs c ≡ true → reject zs c ≡ drop i xs → reject (take i xs ++ zs) c ≡ xs
+rejected-from : (i : ℕ) (xs zs : List Cell) (c : ℕ) → Marks (λ m. m ≤ c) xs → reject zs c ≡ drop i xs → reject (take i xs ++ zs) c ≡ xs
 rejected-from i xs zs c h e =
     let a = reject-append (take i xs) zs c in
-    let b = reject-unmarked (take i xs) c (below-take i xs c h) in
+    let b = reject-unmarked (take i xs) c (marks-take (λ m. m ≤ c) i xs h) in
     let t = take-append-drop i xs in
     cc
 
@@ -104,10 +90,12 @@ pub strike-then-reject : Strike-then-reject
 unfolding Strike-then-reject rewritten
 strike-then-reject p a i n h o =
     let c : ℕ = length (p .changes) in
-    rejected p a _ (rejected-from i (p .cells) _ c h (strike-reject (drop i (p .cells)) n (p .changes) a c (below-drop i (p .cells) c h) o))
+    let m = below-marks (p .cells) c h in
+    rejected p a _ (rejected-from i (p .cells) _ c m (strike-reject (drop i (p .cells)) n (p .changes) a c (marks-drop (λ m. m ≤ c) i (p .cells) m) o))
 
 pub put-then-reject : Put-then-reject
 unfolding Put-then-reject rewritten
 put-then-reject p a i s ls h =
     let c : ℕ = length (p .changes) in
-    rejected p a _ (rejected-from i (p .cells) _ c h (new-reject ls s c (drop i (p .cells)) ∙ reject-unmarked (drop i (p .cells)) c (below-drop i (p .cells) c h)))
+    let m = below-marks (p .cells) c h in
+    rejected p a _ (rejected-from i (p .cells) _ c m (new-reject ls s c (drop i (p .cells)) ∙ reject-unmarked (drop i (p .cells)) c (marks-drop (λ m. m ≤ c) i (p .cells) m)))

@@ -1,14 +1,14 @@
 -- One step back brings the paper back, one step forward again brings the undone one back; a call that is turned away leaves the desk.
 use mathlib.Core.Path.{_≡_, refl, _∙_, ap, subst}
-use mathlib.Core.Bool.{Bool, true, false, _&&_}
+use mathlib.Core.Bool.{Bool, true, false}
 use mathlib.Core.List.{List, [], _∷_}
-use Prim.Native.Nat.{ℕ, zero, suc, _-_, _<_}
+use Prim.Native.Nat.{ℕ, suc, _-_, _<_}
 use native.Mathlib.Omega.{arith}
 use lib.Dec.{eqb, leb}
 use lib.ListN.{length}
-use Rattle.std.proofs.shelf.Tests.{eqb-true, eqb-false, eq-eqb, ne-eqb, and-from}
-use Rattle.model.specs.Paper.{pick, Paper}
-use Rattle.model.specs.Calls.{Call, undo, redo, Desk, Before, Limits, call-number, good-fields, good-call, writes, rewritten, how-much, remembered, undone, redone, moved, changed, fits, turned-by, turned, after, Answer, refused, told, place, answers}
+use Rattle.std.proofs.shelf.Tests.{eqb-false, eq-eqb, ne-eqb, and-from}
+use Rattle.model.specs.Paper.{pick}
+use Rattle.model.specs.Calls.{Call, undo, redo, Desk, Before, Limits, call-number, good-fields, good-call, writes, rewritten, how-much, remembered, undone, redone, moved, changed, fits, turned-by, turned, after, refused, told, place, answers}
 use Rattle.model.specs.Promise.{Undone, Turned-away}
 use Rattle.model.specs.Faults.{Nothing-to-redo}
 use Rattle.model.proofs.Picks.{pick-true, pick-false}
