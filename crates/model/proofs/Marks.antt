@@ -2,16 +2,16 @@
 use mathlib.Core.Path.{_≡_, refl}
 use mathlib.Core.Logic.{_≢_}
 use mathlib.Core.Bool.{Bool, true, false, _||_}
-use mathlib.Core.List.{List, [], _∷_, _++_}
+use mathlib.Core.List.{List, [], _∷_}
 use Prim.Native.Nat.{ℕ, zero, suc, _≤_}
 use native.Mathlib.Omega.{arith}
 use lib.Dec.{eqb}
 use lib.ListN.{take, drop}
 use Rattle.std.proofs.shelf.Tests.{eqb-false, ne-eqb, leb-true, le-leb, and-parts, and-from, or-from}
-use Rattle.model.specs.Paper.{pick, Cell, Change, new-cells, strike, styled, accept, reject, touched}
+use Rattle.model.specs.Paper.{pick, Cell, accept, reject, touched}
 use Rattle.model.specs.Promise.{decided, below}
 use Rattle.model.specs.Faults.{All-marks-gone}
-use Rattle.model.proofs.Picks.{pick-false, pick-both}
+use Rattle.model.proofs.Picks.{pick-false}
 
 -- every mark of the cells is such
 abbrev pub Marks : (ℕ → Type 0) → List Cell → Type 0
@@ -19,10 +19,6 @@ Marks M [] = Unit {0}
 Marks M (x ∷ xs) = (M (x .put-in) × M (x .struck)) × Marks M xs
 
 module _ (M : ℕ → Type 0) where
-  pub marks-append : (xs ys : List Cell) → Marks M xs → Marks M ys → Marks M (xs ++ ys)
-  marks-append [] ys h k = k
-  marks-append (x ∷ xs) ys h k = (h .0, marks-append xs ys (h .1) k)
-
   pub marks-take : (i : ℕ) (xs : List Cell) → Marks M xs → Marks M (take i xs)
   marks-take zero xs h = tt
   marks-take (suc i) [] h = tt
@@ -33,32 +29,10 @@ module _ (M : ℕ → Type 0) where
   marks-drop (suc i) [] h = tt
   marks-drop (suc i) (x ∷ xs) h = marks-drop i xs (h .1)
 
-  -- other cells from place i on
-  pub marks-from : (i : ℕ) (xs zs : List Cell) → Marks M xs → Marks M zs → Marks M (take i xs ++ zs)
-  marks-from i xs zs h k = marks-append (take i xs) zs (marks-take i xs h) k
-
-  pub marks-new : (ls : List ℕ) (s c : ℕ) → M (suc c) → M 0 → Marks M (new-cells ls s c)
-  unfolding new-cells
-  marks-new [] s c p z = tt
-  marks-new (l ∷ ls) s c p z = ((p, z), marks-new ls s c p z)
-
   -- a cell y that stays if the test fails
-  marks-pick : (t : Bool) (y : Cell) (ys : List Cell) → (t ≡ false → M (y .put-in) × M (y .struck)) → Marks M ys → Marks M (pick t ys (y ∷ ys))
+  pub marks-pick : (t : Bool) (y : Cell) (ys : List Cell) → (t ≡ false → M (y .put-in) × M (y .struck)) → Marks M ys → Marks M (pick t ys (y ∷ ys))
   marks-pick true y ys h k = k
   marks-pick false y ys h k = (h refl, k)
-
-  pub marks-strike : (xs : List Cell) (n : ℕ) (cs : List Change) (a c : ℕ) → M (suc c) → Marks M xs → Marks M (strike xs n cs a c)
-  unfolding strike
-  marks-strike [] n cs a c p h = tt
-  marks-strike (x ∷ xs) zero cs a c p h = h
-  marks-strike (x ∷ xs) (suc n) cs a c p h =
-      marks-pick _ _ (strike xs n cs a c) (λ e. (h .0 .0, pick-both M (eqb (x .struck) 0) _ _ p (h .0 .1))) (marks-strike xs n cs a c p (h .1))
-
-  pub marks-styled : (xs : List Cell) (n s : ℕ) → Marks M xs → Marks M (styled xs n s)
-  unfolding styled
-  marks-styled [] n s h = tt
-  marks-styled (x ∷ xs) zero s h = h
-  marks-styled (x ∷ xs) (suc n) s h = (h .0, marks-styled xs n s (h .1))
 
 pub marks-map : (M N : ℕ → Type 0) → ((m : ℕ) → M m → N m) → (xs : List Cell) → Marks M xs → Marks N xs
 marks-map M N f [] h = tt

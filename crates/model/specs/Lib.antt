@@ -5,4 +5,4 @@ pub mod Promise
 pub mod Values
 pub mod Orders
 pub mod Faults
-pub mod Every
+pub mod Valid

@@ -1,5 +1,5 @@
 // The laws of changes: each is the contract of a function, and holds of every paper.
-ghost use Rattle.model.specs.Every.{Every-paper};
+ghost use Rattle.model.specs.Valid.{Valid-papers};
 ghost use Rattle.model.specs.Faults.{All-marks-gone, Strike-then-reject, Put-then-reject, Nothing-to-redo};
 ghost use Rattle.model.specs.Orders.{Any-list-order};
 ghost use Rattle.model.specs.Promise.{One-reading, Any-order, As-if, As-it-was, Undone, Turned-away};
@@ -82,8 +82,8 @@ pub fn nothing_to_redo() -> u8
 }
 
 // Every paper that calls make fits the limits, and every mark in it is of an open change.
-pub fn every_paper() -> u8
-    ensures { λ _. ⌜ Every-paper ⌝ }
+pub fn valid_papers() -> u8
+    ensures { λ _. ⌜ Valid-papers ⌝ }
 {
     0
 }

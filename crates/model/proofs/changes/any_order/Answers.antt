@@ -1,3 +1,4 @@
+-- The contract is a law, which is proved of the model.
 use Rattle.model.proofs.Deciding.{any-order}
 use Rattle.model.proofs.changes.any_order.Needs as need
 

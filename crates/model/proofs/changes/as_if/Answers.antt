@@ -1,3 +1,4 @@
+-- The contract is a law, which is proved of the model.
 use Rattle.model.proofs.Looking.{as-if}
 use Rattle.model.proofs.changes.as_if.Needs as need
 

@@ -19,7 +19,7 @@ open-marks [] cs = true
 open-marks (x ∷ xs) cs = (open-mark cs (x .put-in) && open-mark cs (x .struck)) && open-marks xs cs
 
 -- It fits the limits; every mark is of one of its changes, and of an open one.
-unfoldable pub Every-paper : Type 0
-Every-paper =
+unfoldable pub Valid-papers : Type 0
+Valid-papers =
     (l : Limits) (cs : List Call) → let p : Paper = ran l new-desk cs .now in
     (fits l p ≡ true) × (below (p .cells) (length (p .changes)) ≡ true) × (open-marks (p .cells) (p .changes) ≡ true)

@@ -6,16 +6,44 @@ use mathlib.Core.List.{List, [], _∷_, _++_}
 use Prim.Native.Nat.{ℕ, zero, suc, _-_, _≤_, _<_}
 use native.Mathlib.Omega.{arith}
 use lib.Dec.{eqb, leb}
-use lib.ListN.{length, getD, set}
+use lib.ListN.{length, getD, set, take}
 use Rattle.std.proofs.shelf.Lists.{getD-append-left, getD-at, getD-set-other, getD-past}
 use Rattle.std.proofs.shelf.Tests.{eqb-true, le-leb, and-from, cases-lt}
-use Rattle.model.specs.Paper.{pick, Cell, Change, Paper}
+use Rattle.model.specs.Paper.{pick, Cell, Change, Paper, new-cells, strike, styled}
 use Rattle.model.specs.Calls.{Call, put, strikes, accepts, rejects, styles, undo, redo, show, find, count, change, save, Before, Desk, Limits, rewritten, writes, remembered, undone, redone, moved, changed, fits, turned, after, ran, new-desk}
 use Rattle.model.specs.Promise.{decided}
-use Rattle.model.specs.Every.{open-mark, open-marks, Every-paper}
+use Rattle.model.specs.Valid.{open-mark, open-marks, Valid-papers}
 use Rattle.model.proofs.Picks.{pick-both}
-use Rattle.model.proofs.Marks.{Marks, marks-append, marks-drop, marks-from, marks-new, marks-strike, marks-styled, marks-map, marks-decided, marks-below}
+use Rattle.model.proofs.Marks.{Marks, marks-take, marks-drop, marks-pick, marks-map, marks-decided, marks-below}
 use Rattle.model.proofs.Undoing.{fits-after}
+
+-- what every act does to the marks
+module _ (M : ℕ → Type 0) where
+  marks-append : (xs ys : List Cell) → Marks M xs → Marks M ys → Marks M (xs ++ ys)
+  marks-append [] ys h k = k
+  marks-append (x ∷ xs) ys h k = (h .0, marks-append xs ys (h .1) k)
+
+  -- other cells from place i on
+  marks-from : (i : ℕ) (xs zs : List Cell) → Marks M xs → Marks M zs → Marks M (take i xs ++ zs)
+  marks-from i xs zs h k = marks-append (take i xs) zs (marks-take M i xs h) k
+
+  marks-new : (ls : List ℕ) (s c : ℕ) → M (suc c) → M 0 → Marks M (new-cells ls s c)
+  unfolding new-cells
+  marks-new [] s c p z = tt
+  marks-new (l ∷ ls) s c p z = ((p, z), marks-new ls s c p z)
+
+  marks-strike : (xs : List Cell) (n : ℕ) (cs : List Change) (a c : ℕ) → M (suc c) → Marks M xs → Marks M (strike xs n cs a c)
+  unfolding strike
+  marks-strike [] n cs a c p h = tt
+  marks-strike (x ∷ xs) zero cs a c p h = h
+  marks-strike (x ∷ xs) (suc n) cs a c p h =
+      marks-pick M _ _ (strike xs n cs a c) (λ e. (h .0 .0, pick-both M (eqb (x .struck) 0) _ _ p (h .0 .1))) (marks-strike xs n cs a c p (h .1))
+
+  marks-styled : (xs : List Cell) (n s : ℕ) → Marks M xs → Marks M (styled xs n s)
+  unfolding styled
+  marks-styled [] n s h = tt
+  marks-styled (x ∷ xs) zero s h = h
+  marks-styled (x ∷ xs) (suc n) s h = (h .0, marks-styled xs n s (h .1))
 
 -- the mark of an open change
 abbrev Open : List Change → ℕ → Type 0
@@ -136,9 +164,9 @@ unfolding open-marks
 all-open [] cs h = refl
 all-open (x ∷ xs) cs h = and-from _ _ (and-from _ _ (h .0 .0) (h .0 .1)) (all-open xs cs (h .1))
 
-pub every-paper : Every-paper
-unfolding Every-paper
-every-paper l cs =
+pub valid-papers : Valid-papers
+unfolding Valid-papers
+valid-papers l cs =
     let p : Paper = ran l new-desk cs .now in
     let g = good-ran l cs new-desk ((and-from _ _ (le-leb 0 (l .cells) (omega arith)) (le-leb 0 (l .changes) (omega arith)), tt), tt, tt) in (
       g .0 .0,
