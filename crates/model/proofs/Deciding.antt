@@ -77,7 +77,10 @@ left-both false false x c d ne =
 
 pub any-order : Any-order
 unfolding Any-order
-any-order a b [] c d ne = ap (λ (v : List Cell). decided b v d) (decided-none a c) ∙ (decided-none b d ∙ (sym (decided-none a c) ∙ ap (λ (v : List Cell). decided a v c) (sym (decided-none b d))))
+any-order a b [] c d ne =
+    let e₁ = decided-none a c in
+    let e₂ = decided-none b d in
+    cc
 any-order a b (x ∷ xs) c d ne = go (goes a x c) (goes b x d) refl refl (any-order a b xs c d ne)
   where
     ne′ : d ≢ c
