@@ -24,7 +24,9 @@ impl Habits {
             _ => b"the cat sat + - | \\ \" whereas".to_vec(),
         };
         //             put str acc rej sty und red sho fin cou cha sav
+        let churn = rng.percent(20); // one author, so that what is struck out goes at once
         let weights = match rng.below(4) {
+            _ if churn => [30, 25, 2, 5, 2, 4, 3, 6, 2, 2, 1, 2],
             0 => [20, 10, 5, 5, 5, 5, 4, 14, 5, 5, 3, 5],
             1 => [30, 4, 2, 1, 2, 2, 2, 8, 2, 2, 1, 2],
             2 => [12, 12, 8, 8, 6, 14, 12, 6, 2, 2, 2, 4],
@@ -33,8 +35,8 @@ impl Habits {
         Habits {
             alphabet,
             put_up_to,
-            strike_up_to: rng.pick(&[1, 5, 20, 20, 2000]),
-            authors: rng.between(1, 4),
+            strike_up_to: if churn { put_up_to } else { rng.pick(&[1, 5, 20, 20, 2000]) },
+            authors: if churn { 1 } else { rng.between(1, 4) },
             weights,
             odd: rng.pick(&[0, 3, 8, 25]),
         }
@@ -117,7 +119,12 @@ impl Habits {
 
     pub fn call(&self, rng: &mut Rng, desk: &Desk) -> Call {
         let cells = desk.now.cells.len() as u64;
-        match self.which(rng, desk) {
+        let full = cells >= desk.max_cells as u64 || desk.now.changes.len() as u64 >= desk.max_changes as u64;
+        let mut which = self.which(rng, desk);
+        if which < 2 && full && rng.percent(75) {
+            which = self.which(rng, desk); // not only puts that have no room
+        }
+        match which {
             0 => Call::Put {
                 author: self.author(rng),
                 place: self.upto(rng, cells),

@@ -261,11 +261,12 @@ fn shown_call(call: &[u8]) -> String {
     format!("{}  [{}]", clipped(text), hex(call))
 }
 
-/// A desk to try: its limits, how long what is put in may be, and how many puts come first.
+/// A desk to try: its limits, how many letters are put in at once at most, and how many puts of how many letters come first.
 struct Plan {
     limits: Limits,
     put_up_to: u64,
     fill: u64,
+    fill_by: u64,
     calls: u64,
 }
 
@@ -274,7 +275,7 @@ fn plan(rng: &mut Rng, number: u64, calls: u64) -> Plan {
         // as large as can be; with many papers to bring back the plain desk gets fewer letters, since it keeps them whole
         let (undos, fill) = if rng.percent(50) { (rng.pick(&[0, 500, 1000]), rng.pick(&[100, 300, 980])) } else { (MOST_UNDOS, 30) };
         let limits = Limits { cells: MOST_CELLS, changes: MOST_CHANGES, undos };
-        return Plan { limits, put_up_to: 1024, fill, calls: calls.min(40) };
+        return Plan { limits, put_up_to: 1024, fill, fill_by: 1024, calls: calls.min(40) };
     }
     let changes = match rng.below(20) {
         0 => 0,
@@ -287,22 +288,23 @@ fn plan(rng: &mut Rng, number: u64, calls: u64) -> Plan {
     match rng.below(20) {
         0 | 1 => {
             let limits = Limits { cells: rng.pick(&[0, 1, 2]), changes, undos: rng.pick(&few) };
-            Plan { limits, put_up_to: 3, fill: 0, calls: calls.min(80) }
+            Plan { limits, put_up_to: 3, fill: 0, fill_by: 1, calls: calls.min(80) }
         }
         2..=9 => {
             let limits = Limits { cells: rng.pick(&[60, 60, 20, 200, 300]), changes, undos: rng.pick(&few) };
-            Plan { limits, put_up_to: rng.pick(&[1, 2, 5, 20]), fill: 0, calls }
+            Plan { limits, put_up_to: rng.pick(&[1, 2, 5, 20]), fill: 0, fill_by: 1, calls }
         }
         10..=14 => {
             let undos = if rng.percent(3) { MOST_UNDOS } else { rng.pick(&[0, 30, 300, 2048, 5000]) };
             let limits = Limits { cells: rng.pick(&[2048, 2048, 1024, 1025, 4000]), changes, undos };
-            Plan { limits, put_up_to: rng.pick(&[5, 10, 40, 200, 1024]), fill: 0, calls }
+            Plan { limits, put_up_to: rng.pick(&[5, 10, 40, 200, 1024]), fill: 0, fill_by: 1, calls }
         }
         _ => {
             // many pieces, filled to the brim
             let cells = rng.between(3_000, 40_000);
             let limits = Limits { cells: cells as u32, changes: changes.max(300), undos: rng.pick(&[0, 300, 3000, 20_000]) };
-            Plan { limits, put_up_to: rng.pick(&[30, 600, 1024]), fill: rng.below(cells / 500), calls }
+            let fill_by = rng.pick(&[1024, 1023, 700, 513, 100]);
+            Plan { limits, put_up_to: rng.pick(&[30, 600, 1024]), fill: rng.below(cells / fill_by + 2), fill_by, calls }
         }
     }
 }
@@ -333,11 +335,18 @@ fn desk(stage: Stage, seed: u64, number: u64, calls: u64, loud: bool, tally: &mu
         pair.call(bytes, tally).map_err(|wrong| failed(count, bytes, wrong)).map(|()| count)
     };
 
-    let filling = Habits::new(&mut rng, 1024);
+    let filling = Habits::new(&mut rng, plan.fill_by);
+    let where_to = rng.below(5);
     for _ in 0..plan.fill {
-        let place = rng.between(0, pair.plain.now.cells.len() as u64) as u32;
-        let call = Call::Put { author: rng.below(4) as u32, place, style: 0, letters: filling.text(&mut rng, 1024) };
-        step(&mut pair, &call.bytes())?;
+        let cells = pair.plain.now.cells.len() as u64;
+        let place = match where_to {
+            0 => 0,
+            1 => cells / 2,
+            2 => cells,
+            _ => rng.between(0, cells),
+        };
+        let letters = filling.text(&mut rng, plan.fill_by);
+        step(&mut pair, &Call::Put { author: rng.below(4) as u32, place: place as u32, style: 0, letters }.bytes())?;
     }
     let mut habits = Habits::new(&mut rng, plan.put_up_to);
     for i in 0..plan.calls {

@@ -81,16 +81,15 @@ pub unsafe extern "C" fn desk_call(
     match fault() {
         5 if bytes[0] == 0 => lent[1][4] ^= 1,
         6 => answer[bytes.len()] ^= 1,
-        7 if bytes[0] == 1 => lent[1][asked[1] - 1] += 1, // no fault: its own memory
-        8 if bytes[0] == 1 && lent[0].len() > asked[0] => lent[0][asked[0]] ^= 1,
-        9 if bytes == [0, 8, 0, 0, 0, 2, 0, 0, 0] => bytes[5] = 0,
-        10 if bytes == [0, 4, 0, 0, 0, 1, 0, 0, 0] => bytes[5] = 0,
-        11 if bytes.len() > 40 && bytes[0] == 3 => {
+        7 if bytes[0] == 1 && lent[0].len() > asked[0] => lent[0][asked[0]] ^= 1,
+        8 if bytes == [0, 8, 0, 0, 0, 2, 0, 0, 0] => bytes[5] = 0,
+        9 if bytes == [0, 4, 0, 0, 0, 1, 0, 0, 0] => bytes[5] = 0,
+        10 if bytes.len() > 40 && bytes[0] == 3 => {
             let last = bytes.len() - 12;
             bytes[last] ^= 1; // the style of the last cell that is shown
         }
-        12 if bytes[0] == 0 && bytes[1] == 1 => bytes[5] = bytes[5].saturating_sub(1),
-        13 if bytes[0] == 0 && bytes[1] == 9 => bytes[1] = 4,
+        11 if bytes[0] == 0 && bytes[1] == 1 => bytes[5] = bytes[5].saturating_sub(1),
+        12 if bytes[0] == 0 && bytes[1] == 9 => bytes[1] = 4,
         _ => (),
     }
     answer[..bytes.len()].copy_from_slice(&bytes);
