@@ -2,11 +2,11 @@
 use mathlib.Core.Path.{_≡_, refl, sym, ap, _∙_}
 use mathlib.Core.List.{List, [], _∷_, _++_, append-assoc, append-nil}
 use Prim.Native.Nat.{ℕ, suc, _+_, _*_, _≤_, _<_}
-use native.Mathlib.Nat.{zero-add, mul-suc}
+use native.Mathlib.Nat.{add-zero, zero-add, mul-suc}
 use native.Mathlib.Numerals.{add-one}
 use native.Mathlib.Omega.{arith}
 use lib.ListN.{length, getD, take, drop, set, length-append}
-use Rattle.std.proofs.shelf.Lists.{length-take-le, length-drop, take-at, drop-at, drop-drop, set-split}
+use Rattle.std.proofs.shelf.Lists.{length-take-le, length-drop, take-at, drop-at, drop-drop, set-split, take-append-drop}
 use Rattle.std.proofs.shelf.Edits.{sets, sets-eq}
 use Rattle.model.specs.Paper.{Cell}
 use Rattle.codec.specs.Bytes.{word-bytes, words-bytes, cells-bytes, rows-bytes}
@@ -56,6 +56,10 @@ pub over-step : (out : List ℕ) (at : ℕ) (bs cs : List ℕ) {n : ℕ} {first 
     → second ≡ over first n cs → second ≡ over out at (bs ++ cs)
 over-step out at bs cs {n} f e fits g = let m = over-more out at bs n e fits cs in cc
 
+pub over-nothing : (out : List ℕ) (at : ℕ) → over out at [] ≡ out
+unfolding over
+over-nothing out at = rw add-zero (take-append-drop at out)
+
 -- from the first byte on
 pub over-start : (out bs : List ℕ) → over out 0 bs ≡ bs ++ drop (length bs) out
 unfolding over
@@ -99,18 +103,21 @@ rows-bytes-push (q ∷ rs) r = simp (rows-bytes-push rs r, append-assoc)
 -- The steps of a caller, after what it had written before: a number of a row of numbers, a cell of a row, and the end of a row, whose count
 -- stands before its cells.
 module _ (out : List ℕ) (at : ℕ) (before : List ℕ) where
-  pub words-step : (ns : List ℕ) (n : ℕ) {place : ℕ} {first second : List ℕ} → first ≡ over out at (before ++ words-bytes ns) → place ≡ at + length (before ++ words-bytes ns)
+  pub words-step : (ns : List ℕ) (n : ℕ) {place : ℕ} {first second : List ℕ} → first ≡ over out at (before ++ words-bytes ns) → place ≡ at + (length before + 4 * length ns)
       → place ≤ length out → second ≡ over first place (word-bytes n) → second ≡ over out at (before ++ words-bytes (ns ++ (n ∷ [])))
-  words-step ns n f e fits g =
-      let s = over-step out at (before ++ words-bytes ns) (word-bytes n) f e fits g in
+  words-step ns n {place} f e fits g =
+      let l : place ≡ at + length (before ++ words-bytes ns) = simp (length-append, length-words-bytes) e in
+      let s = over-step out at (before ++ words-bytes ns) (word-bytes n) f l fits g in
       let a = append-assoc before (words-bytes ns) (word-bytes n) in
       let p = words-bytes-push ns n in
       cc
 
-  pub cells-step : (xs : List Cell) (x : Cell) {place : ℕ} {first second : List ℕ} → first ≡ over out at (before ++ cells-bytes xs) → place ≡ at + length (before ++ cells-bytes xs)
-      → place ≤ length out → second ≡ over first place (cells-bytes (x ∷ [])) → second ≡ over out at (before ++ cells-bytes (xs ++ (x ∷ [])))
-  cells-step xs x f e fits g =
-      let s = over-step out at (before ++ cells-bytes xs) (cells-bytes (x ∷ [])) f e fits g in
+  pub cells-step : (xs : List Cell) (x : Cell) {place : ℕ} {first second : List ℕ} → first ≡ over out at (before ++ cells-bytes xs)
+      → place ≡ at + (length before + 16 * length xs) → place ≤ length out → second ≡ over first place (cells-bytes (x ∷ []))
+      → second ≡ over out at (before ++ cells-bytes (xs ++ (x ∷ [])))
+  cells-step xs x {place} f e fits g =
+      let l : place ≡ at + length (before ++ cells-bytes xs) = simp (length-append, length-cells-bytes) e in
+      let s = over-step out at (before ++ cells-bytes xs) (cells-bytes (x ∷ [])) f l fits g in
       let a = append-assoc before (cells-bytes xs) (cells-bytes (x ∷ [])) in
       let p = cells-bytes-push xs x in
       cc
