@@ -1,0 +1,99 @@
+-- How a match grows by a letter, falls back to a border, and what a search has found so far. Assumes nothing.
+use mathlib.Core.Path.{_≡_, refl, sym, ap, subst, _∙_}
+use mathlib.Core.List.{List, [], _∷_, _++_}
+use mathlib.Core.Logic.{inl, inr}
+use Prim.Native.Nat.{ℕ, zero, suc, _+_, _-_, _≤_, _<_}
+use native.Mathlib.Omega.{arith}
+use lib.ListN.{length, getD, take, drop}
+use Rattle.std.proofs.shelf.Lists.{append-nil, append-assoc, length-append, length-take-le, take-more, same-from-push}
+use Rattle.std.proofs.shelf.Tests.{cases-lt}
+use Rattle.finder.specs.Match.{Ends, Matches, Step, Border, Table, Unfound, Seeking}
+
+ends-none : (ls t : List ℕ) → Ends ls t 0
+ends-none ls t = record { fits = omega arith; front = t; split = sym (append-nil t) }
+
+ends-length : {ls t : List ℕ} {k : ℕ} → Ends ls t k → k ≤ length t
+ends-length {ls} {t} {k} e =
+    let a = ap length (e .split) in
+    omega (arith, length-append (e .front) (take k ls), length-take-le k ls (e .fits))
+
+ends-more : {ls t : List ℕ} {j : ℕ} → Ends ls t j → j < length ls → Ends ls (t ++ (getD ls j 0 ∷ [])) (j + 1)
+ends-more {ls} {t} {j} e h =
+    let m = take-more ls j 0 h in
+    let a = append-assoc (e .front) (take j ls) (getD ls j 0 ∷ []) in
+    let s = e .split in
+    record { fits = omega arith; front = e .front; split = cc }
+
+ends-less : {ls t : List ℕ} {x j : ℕ} → Ends ls (t ++ (x ∷ [])) (suc j) → Ends ls t j × (getD ls j 0 ≡ x)
+ends-less {ls} {t} {x} {j} e =
+    let h : j < length ls = omega (arith, e .fits) in
+    let o : j + 1 ≡ suc j = omega arith in
+    let m = take-more ls j 0 h in
+    let a = append-assoc (e .front) (take j ls) (getD ls j 0 ∷ []) in
+    let s = e .split in
+    let q : t ++ (x ∷ []) ≡ (e .front ++ take j ls) ++ (getD ls j 0 ∷ []) = cc in
+    let p = same-from-push t (e .front ++ take j ls) x (getD ls j 0) q in
+    (record { fits = omega arith; front = e .front; split = p .0 }, sym (p .1))
+
+-- of two ends of one list the longer ends with the shorter
+shorter-end : (f u g v : List ℕ) → f ++ u ≡ g ++ v → length v ≤ length u → (h : List ℕ) × (u ≡ h ++ v)
+shorter-end [] u g v e l = (g, e)
+shorter-end (a ∷ f) u [] v e l = absurd (omega (arith, ap length e, length-append f u))
+shorter-end (a ∷ f) u (b ∷ g) v e l = let s : f ++ u ≡ g ++ v = cc in shorter-end f u g v s l
+
+ends-within : {ls t : List ℕ} {k j : ℕ} → Ends ls t k → Ends ls (take k ls) j → Ends ls t j
+ends-within {ls} {t} {k} {j} e b =
+    let a = append-assoc (e .front) (b .front) (take j ls) in
+    let s = e .split in
+    let z = b .split in
+    record { fits = b .fits; front = e .front ++ b .front; split = cc }
+
+ends-narrow : {ls t : List ℕ} {k j : ℕ} → Ends ls t k → Ends ls t j → j ≤ k → Ends ls (take k ls) j
+ends-narrow {ls} {t} {k} {j} e b l =
+    let r = shorter-end (e .front) (take k ls) (b .front) (take j ls) (sym (e .split) ∙ b .split)
+        (omega (arith, length-take-le k ls (e .fits), length-take-le j ls (b .fits))) in
+    record { fits = b .fits; front = r .0; split = r .1 }
+
+-- On the way down the borders: t ends with k letters, and no longer beginning of the letters goes on with the letter x.
+pub record Falling (ls t : List ℕ) (x k : ℕ) : Type 0 where
+  pub ends : Ends ls t k
+  pub longest : (j : ℕ) → j < length ls → Ends ls t j → getD ls j 0 ≡ x → j ≤ k
+
+pub falling-first : {ls t : List ℕ} {x k : ℕ} → Matches ls t k → Falling ls t x k
+falling-first m = record { ends = m .ends; longest = λ j _ e _. m .longest j e }
+
+pub falling-on : {ls t : List ℕ} {x k b : ℕ} → (getD ls k 0 ≡ x → ⊥) → Border ls k b → Falling ls t x k → Falling ls t x b
+falling-on {ls} {t} {x} {k} {b} ne o f =
+    record
+    { ends = ends-within (f .ends) (o .ends);
+    longest =
+        λ j l e g.
+        let s : (j ≡ k → ⊥) = λ q. ne (subst (λ n. getD ls n 0 ≡ x) q g) in
+        let m = f .longest j l e g in
+        let h : j < k = elim (cases-lt j k) [ inl h ↦ h | inr h ↦ absurd (s (omega arith)) ] in
+        o .longest j h (ends-narrow (f .ends) e m) }
+
+falling-bounds : {ls t : List ℕ} {x k j : ℕ} → Falling ls t x k → Ends ls (t ++ (x ∷ [])) (suc j) → j ≤ k
+falling-bounds {ls} {t} {x} {k} {j} f e = let h : j < length ls = omega (arith, e .fits) in f .longest j h (ends-less e .0) (ends-less e .1)
+
+pub falling-full : {ls t : List ℕ} {x k : ℕ} → k < length ls → getD ls k 0 ≡ x → Falling ls t x k → Matches ls (t ++ (x ∷ [])) (k + 1)
+falling-full {ls} {t} {x} {k} h g f =
+    record
+    { ends = subst (λ y. Ends ls (t ++ (y ∷ [])) (k + 1)) g (ends-more (f .ends) h);
+    longest = elim [ zero ↦ λ _. omega arith | suc j ↦ λ e. omega (arith, falling-bounds f e) ] }
+
+pub falling-none : {ls t : List ℕ} {x k : ℕ} → k ≡ 0 → (getD ls k 0 ≡ x → ⊥) → Falling ls t x k → Matches ls (t ++ (x ∷ [])) 0
+falling-none {ls} {t} {x} {k} z ne f =
+    record
+    { ends = ends-none ls _;
+    longest =
+        elim [ zero ↦ λ _. omega arith
+        | suc j ↦ λ e.
+        let l : j ≡ k = omega (arith, falling-bounds f e) in
+        absurd (ne (subst (λ n. getD ls n 0 ≡ x) l (ends-less e .1))) ] }
+
+pub border-of : (ls table : List ℕ) (n k : ℕ) → Table ls table n → (k ≡ 0 → ⊥) → k ≤ n → Border ls k (getD table (k - 1) 0)
+border-of ls table n k t z l =
+    let h : k - 1 < n = elim (cases-lt (k - 1) n) [ inl h ↦ h | inr h ↦ absurd (z (omega arith)) ] in
+    let e : k - 1 + 1 ≡ k = elim (cases-lt 0 k) [ inl h ↦ omega arith | inr h ↦ absurd (z (omega arith)) ] in
+    subst (λ m. Border ls m (getD table (k - 1) 0)) e (t (k - 1) h)
