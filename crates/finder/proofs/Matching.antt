@@ -1,21 +1,25 @@
 -- How a match grows by a letter, falls back to a border, and what a search has found so far. Assumes nothing.
 use mathlib.Core.Path.{_≡_, refl, sym, ap, subst, _∙_}
 use mathlib.Core.List.{List, [], _∷_, _++_}
-use mathlib.Core.Logic.{inl, inr}
+use mathlib.Core.Logic.{inl, inr, _≢_}
 use Prim.Native.Nat.{ℕ, zero, suc, _+_, _-_, _≤_, _<_}
 use native.Mathlib.Omega.{arith}
-use lib.ListN.{length, getD, take, drop}
-use Rattle.std.proofs.shelf.Lists.{append-nil, append-assoc, length-append, length-take-le, take-more, same-from-push}
+use lib.ListN.{length, getD, set, take, drop}
+use borrow.Author.Count.{below-more}
+use Rattle.std.proofs.shelf.Lists.{append-nil, append-assoc, length-append, length-drop, length-take-le, take-more, drop-all, drop-append-le, getD-set-same, getD-set-other, same-from-push}
 use Rattle.std.proofs.shelf.Tests.{cases-lt}
 use Rattle.finder.specs.Match.{Ends, Matches, Step, Border, Table, Unfound, Seeking}
 
 ends-none : (ls t : List ℕ) → Ends ls t 0
 ends-none ls t = record { fits = omega arith; front = t; split = sym (append-nil t) }
 
-ends-length : {ls t : List ℕ} {k : ℕ} → Ends ls t k → k ≤ length t
+pub ends-length : {ls t : List ℕ} {k : ℕ} → Ends ls t k → k ≤ length t
 ends-length {ls} {t} {k} e =
     let a = ap length (e .split) in
     omega (arith, length-append (e .front) (take k ls), length-take-le k ls (e .fits))
+
+pub matches-none : (ls : List ℕ) → Matches ls [] 0
+matches-none ls = record { ends = ends-none ls []; longest = λ j e. ends-length e }
 
 ends-more : {ls t : List ℕ} {j : ℕ} → Ends ls t j → j < length ls → Ends ls (t ++ (getD ls j 0 ∷ [])) (j + 1)
 ends-more {ls} {t} {j} e h =
@@ -97,3 +101,57 @@ border-of ls table n k t z l =
     let h : k - 1 < n = elim (cases-lt (k - 1) n) [ inl h ↦ h | inr h ↦ absurd (z (omega arith)) ] in
     let e : k - 1 + 1 ≡ k = elim (cases-lt 0 k) [ inl h ↦ omega arith | inr h ↦ absurd (z (omega arith)) ] in
     subst (λ m. Border ls m (getD table (k - 1) 0)) e (t (k - 1) h)
+
+-- The proper borders of some letters are the ends of all of them but the first.
+ends-cons : (ls u : List ℕ) (j : ℕ) → Ends ls (drop 1 u) j → Ends ls u j
+ends-cons ls [] j e = e
+ends-cons ls (x ∷ u) j e = record { fits = e .fits; front = x ∷ e .front; split = ap (λ v. x ∷ v) (e .split) }
+
+shorter-front : (u f v : List ℕ) → u ≡ f ++ v → length v < length u → (g : List ℕ) × (drop 1 u ≡ g ++ v)
+shorter-front u [] v e l = absurd (omega (arith, ap length e))
+shorter-front u (a ∷ f) v e l = (f, ap (drop 1) e)
+
+ends-tail : (ls u : List ℕ) (j : ℕ) → Ends ls u j → j < length u → Ends ls (drop 1 u) j
+ends-tail ls u j e l =
+    let r = shorter-front u (e .front) (take j ls) (e .split) (omega (arith, length-take-le j ls (e .fits))) in
+    record { fits = e .fits; front = r .0; split = r .1 }
+
+border : (ls : List ℕ) (n b : ℕ) → 0 < n → n ≤ length ls → Matches ls (drop 1 (take n ls)) b → Border ls n b
+border ls n b z l m =
+    let s = length-take-le n ls l in
+    record
+    { proper = omega (arith, ends-length (m .ends), length-drop 1 (take n ls));
+    ends = ends-cons ls (take n ls) b (m .ends);
+    longest = λ j h e. m .longest j (ends-tail ls (take n ls) j e (omega arith)) }
+
+-- The table is right below i, and k is its last entry.
+pub record Filling (ls table : List ℕ) (i k : ℕ) : Type 0 where
+  pub small : k < i
+  pub matches : Matches ls (drop 1 (take i ls)) k
+  pub right : Table ls table i
+
+filling : (ls table : List ℕ) (i k : ℕ) → i < length ls → i < length table → Table ls table i → Matches ls (drop 1 (take (i + 1) ls)) k → Filling ls (set table i k) (i + 1) k
+filling ls table i k l h t m =
+    let b = border ls (i + 1) k (omega arith) (omega arith) m in
+    record
+    { small = b .proper;
+    matches = m;
+    right =
+        below-more _ _
+        (λ j o. let ne : j ≢ i = omega arith in rw getD-set-other (t j o))
+        (rw getD-set-same b) }
+
+pub filling-first : (ls table : List ℕ) → 0 < length ls → length ls ≤ length table → Filling ls (set table 0 0) 1 0
+filling-first ls table z h =
+    let n : drop 1 (take 1 ls) ≡ [] = drop-all 1 (take 1 ls) (omega (arith, length-take-le 1 ls z)) in
+    filling ls table 0 0 z (omega arith) (λ j o. absurd (omega arith)) (rw n (matches-none ls))
+
+pub filling-more :
+    (ls table : List ℕ) (i k r : ℕ) → 0 < i → i < length ls → length ls ≤ length table → Filling ls table i k → Step ls k (getD ls i 0) r →
+    Filling ls (set table i r) (i + 1) r
+filling-more ls table i k r z l h f s =
+    let m = take-more ls i 0 l in
+    let o : 1 ≤ length (take i ls) = omega (arith, length-take-le i ls (omega arith)) in
+    let d = drop-append-le 1 (take i ls) (getD ls i 0 ∷ []) o in
+    let e : drop 1 (take i ls) ++ (getD ls i 0 ∷ []) ≡ drop 1 (take (i + 1) ls) = cc in
+    filling ls table i r l (omega arith) (f .right) (subst (λ t. Matches ls t r) e (s (drop 1 (take i ls)) (f .matches)))
