@@ -7,9 +7,8 @@ use Prim.Native.Nat.{ℕ, zero, suc, _+_, _-_, _≤_, _<_}
 use native.Mathlib.Omega.{arith}
 use lib.Dec.{leb, eqb}
 use lib.ListN.{length, getD, take, drop}
-use lib.Seq.{drop-nil}
-use Rattle.std.proofs.shelf.Tests.{leb-true, le-leb, and-parts, eqb-true, eq-eqb}
-use Rattle.std.proofs.shelf.Lists.{length-append, length-take-le, length-drop, append-assoc, drop-drop, take-all, take-at, take-take, take-append-drop, drop-at}
+use Rattle.std.proofs.shelf.Tests.{leb-true, le-leb, and-parts, eqb-true, eq-eqb, cases-lt}
+use Rattle.std.proofs.shelf.Lists.{length-append, length-take, length-take-le, length-drop, append-assoc, drop-drop, take-all, take-at, take-take, take-append-drop, take-append-le, take-more, drop-at}
 use Rattle.model.specs.Paper.{pick, Cell, letters}
 use Rattle.model.specs.Rows.{begins, find-in}
 use Rattle.model.proofs.Rows.{by-test}
@@ -137,7 +136,7 @@ full-is-found xs ls from i z l u m =
         find-at xs ls from 0 (from + (i + 1 - length ls)) z (omega arith) (rw drop-drop at b)
         (λ j o s c.
         let k : j - from + length ls ≤ i = omega arith in
-        u (j - from + length ls) (rw take-take (ends-from xs ls from j z (omega arith) c))) in
+        u (j - from + length ls) (rw (take-take (j - from + length ls) i (letters (drop from xs)) k) (ends-from xs ls from j z (omega arith) c))) in
     omega arith
 
 pub unfound-is-absent : Unfound-is-absent
@@ -145,3 +144,47 @@ unfolding Unfound-is-absent
 unfound-is-absent xs ls from i z l u =
     let a = take-all i (letters (drop from xs)) (omega (arith, letters-length (drop from xs), length-drop from xs)) in
     find-none xs ls from 0 (λ j o c. u (j - from + length ls) (rw a (ends-from xs ls from j z (omega arith) c)))
+
+-- Nothing is found in no letters, and one letter more finds nothing unless all match.
+pub unfound-none : (ls : List ℕ) → 0 < length ls → Unfound ls []
+unfound-none ls z i e = let n : length (take {A = ℕ} i []) ≤ 0 = simp length-take (omega arith) in omega (arith, ends-length e)
+
+pub unfound-more : (ls t : List ℕ) (x k : ℕ) → Matches ls (t ++ (x ∷ [])) k → k < length ls → Unfound ls t → Unfound ls (t ++ (x ∷ []))
+unfound-more ls t x k m h u i e =
+    elim (cases-lt (length t) i)
+    [ inl l ↦
+        let a = take-all i (t ++ (x ∷ [])) (omega (arith, length-append t (x ∷ []))) in
+        omega (arith, m .longest (length ls) (rw a at e))
+    | inr l ↦ u i (rw take-append-le at e) ]
+
+-- A search from its first letter to its end: what a caller carries from letter to letter.
+pub seeking-none : (ls ys : List ℕ) → 0 < length ls → Seeking ls ys 0 0
+seeking-none ls ys z = record { short = z; matches = matches-none ls; unfound = unfound-none ls z }
+
+step-matches : {ls ys : List ℕ} {i k r : ℕ} → i < length ys → Step ls k (getD ys i 0) r → Seeking ls ys i k → Matches ls (take (i + 1) ys) r
+step-matches {ls} {ys} {i} h s f = rw (take-more ys i 0 h) (s (take i ys) (f .matches))
+
+pub seeking-more : {ls ys : List ℕ} {i k r : ℕ} → i < length ys → Step ls k (getD ys i 0) r → (r ≡ length ls → ⊥) → Seeking ls ys i k → Seeking ls ys (i + 1) r
+seeking-more {ls} {ys} {i} {k} {r} h s ne f =
+    let m = s (take i ys) (f .matches) in
+    let l : r < length ls = elim (cases-lt r (length ls)) [ inl l ↦ l | inr l ↦ absurd (ne (omega (arith, m .ends .fits))) ] in
+    record { short = l; matches = step-matches h s f; unfound = rw (take-more ys i 0 h) (unfound-more ls (take i ys) (getD ys i 0) r m l (f .unfound)) }
+
+-- no more match than were read
+pub seeking-read : {ls ys : List ℕ} {i k x r : ℕ} → Step ls k x r → Seeking ls ys i k → r ≤ i + 1
+seeking-read {ls} {ys} {i} {k} {x} s f =
+    let n : length (take i ys) ≤ i = simp length-take (omega arith) in
+    omega (arith, ends-length (s (take i ys) (f .matches) .ends), length-append (take i ys) (x ∷ []))
+
+pub seeking-full :
+    (xs : List Cell) (ls : List ℕ) (from i k r : ℕ) → from + i < length xs → Step ls k (getD (letters (drop from xs)) i 0) r → r ≡ length ls →
+    Seeking ls (letters (drop from xs)) i k → find-in xs ls from 0 ≡ suc (from + (i + 1) - length ls)
+unfolding Full-is-found
+seeking-full xs ls from i k r l s e f =
+    let h : i < length (letters (drop from xs)) = omega (arith, letters-length (drop from xs), length-drop from xs) in
+    full-is-found xs ls from i (omega (arith, f .short)) l (f .unfound) (rw e at (step-matches h s f))
+
+pub seeking-all :
+    (xs : List Cell) (ls : List ℕ) (from i k : ℕ) → length xs ≤ from + i → Seeking ls (letters (drop from xs)) i k → find-in xs ls from 0 ≡ 0
+unfolding Unfound-is-absent
+seeking-all xs ls from i k l f = unfound-is-absent xs ls from i (omega (arith, f .short)) l (f .unfound)

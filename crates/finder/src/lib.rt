@@ -50,3 +50,33 @@ pub fn unfound_is_absent() -> u8
 {
     0
 }
+
+#[cfg(test)]
+mod tests {
+    use super::*;
+    use std::test::*;
+
+    // The place of the letters in a text, or its length.
+    fn place(letters: &[u8], text: &[u8]) -> usize
+        requires { ⌜ 1 ≤ length (now letters) ⌝ ∗ ⌜ length (now letters) ≤ 256 ⌝ }
+    {
+        let mut table = [0; 256];
+        prepare(letters, &mut table);
+        let mut k = 0;
+        for i in 0..text.len() {
+            k = step(letters, &table, k, text[i] as u32);
+            if k == letters.len() {
+                return i + 1 - k;
+            }
+        }
+        text.len()
+    }
+
+    #[test]
+    fn places() -> Result<(), Fail> {
+        check_eq(place(b"aaab", b"aaaaaab"), 3)?;
+        check_eq(place(b"abcabd", b"abcabcabd"), 3)?;
+        check_eq(place(b"abab", b"abaabaabb"), 9)?;
+        check_eq(place(b"a", b""), 0)
+    }
+}
