@@ -1,14 +1,15 @@
 -- From a search letter by letter to the first place at which letters stand. Assumes nothing.
-use mathlib.Core.Path.{_≡_, refl, sym, ap, subst, _∙_}
+use mathlib.Core.Path.{_≡_, refl, ap}
 use mathlib.Core.Logic.{inl, inr}
-use mathlib.Core.Bool.{Bool, true, false, _&&_}
+use mathlib.Core.Bool.{true, _&&_}
 use mathlib.Core.List.{List, [], _∷_, _++_}
 use Prim.Native.Nat.{ℕ, zero, suc, _+_, _-_, _≤_, _<_}
 use native.Mathlib.Omega.{arith}
 use lib.Dec.{leb, eqb}
 use lib.ListN.{length, getD, take, drop}
 use Rattle.std.proofs.shelf.Tests.{leb-true, le-leb, and-parts, eqb-true, eq-eqb, cases-lt}
-use Rattle.std.proofs.shelf.Lists.{length-append, length-take, length-take-le, length-drop, append-assoc, drop-drop, take-all, take-at, take-take, take-append-drop, take-append-le, take-more, drop-at}
+use Rattle.std.proofs.shelf.Lists.{length-append, length-take, length-take-le, length-drop, append-assoc}
+use Rattle.std.proofs.shelf.Lists.{drop-drop, take-all, take-at, take-take, take-append-drop, take-append-le, take-more, drop-at}
 use Rattle.model.specs.Paper.{pick, Cell, letters}
 use Rattle.model.specs.Rows.{begins, find-in}
 use Rattle.model.proofs.Rows.{by-test}
@@ -61,7 +62,9 @@ nothing-begins k ls z e =
     omega (arith, length-append ls (r .0), letters-length (drop k []), length-drop {A = Cell} k [])
 
 -- the test of `find-in` fails where the letters do not stand
-not-here : {v w : ℕ} (from i : ℕ) (xs : List Cell) (ls : List ℕ) → (from ≤ i → begins xs ls ≡ true → ⊥) → v ≡ w → pick (leb from i && begins xs ls) (suc i) v ≡ w
+not-here :
+    {v w : ℕ} (from i : ℕ) (xs : List Cell) (ls : List ℕ) → (from ≤ i → begins xs ls ≡ true → ⊥) → v ≡ w →
+    pick (leb from i && begins xs ls) (suc i) v ≡ w
 not-here {v} {w} from i xs ls never e =
     by-test (leb from i && begins xs ls) (suc i) v (λ n. n ≡ w)
     (λ t. let p = and-parts (leb from i) (begins xs ls) t in absurd (never (leb-true from i (p .0)) (p .1))) (λ _. e)
@@ -85,7 +88,9 @@ find-none (x ∷ xs) ls from i never =
     not-here from i (x ∷ xs) ls (λ o. never 0 (omega arith)) (find-none xs ls from (suc i) (λ j o. never (suc j) (omega arith)))
 
 -- Where the letters stand in cells, and where their text ends with them.
-ends-where-begins : (xs : List Cell) (ls : List ℕ) (j : ℕ) → 0 < length ls → begins (drop j xs) ls ≡ true → Ends ls (take (j + length ls) (letters xs)) (length ls)
+ends-where-begins :
+    (xs : List Cell) (ls : List ℕ) (j : ℕ) → 0 < length ls → begins (drop j xs) ls ≡ true →
+    Ends ls (take (j + length ls) (letters xs)) (length ls)
 ends-where-begins xs ls j z b =
     let r = begins-split (drop j xs) ls b in
     let g = r .1 in
@@ -103,7 +108,9 @@ ends-where-begins xs ls j z b =
     let e = ap (take (j + length ls)) s in
     record { fits = omega arith; front = take j (letters xs); split = cc }
 
-begins-where-ends : (xs : List Cell) (ls : List ℕ) (i : ℕ) → i ≤ length xs → Ends ls (take i (letters xs)) (length ls) → begins (drop (i - length ls) xs) ls ≡ true
+begins-where-ends :
+    (xs : List Cell) (ls : List ℕ) (i : ℕ) → i ≤ length xs → Ends ls (take i (letters xs)) (length ls) →
+    begins (drop (i - length ls) xs) ls ≡ true
 begins-where-ends xs ls i h e =
     let s = e .split in
     let all = take-all (length ls) ls (omega arith) in
@@ -119,7 +126,9 @@ begins-where-ends xs ls i h e =
     begins-from (drop (i - length ls) xs) ls (drop i (letters xs)) (cc)
 
 -- letters that stand at or after `from` stand in the text that begins there
-ends-from : (xs : List Cell) (ls : List ℕ) (from j : ℕ) → 0 < length ls → from ≤ j → begins (drop j xs) ls ≡ true → Ends ls (take (j - from + length ls) (letters (drop from xs))) (length ls)
+ends-from :
+    (xs : List Cell) (ls : List ℕ) (from j : ℕ) → 0 < length ls → from ≤ j → begins (drop j xs) ls ≡ true →
+    Ends ls (take (j - from + length ls) (letters (drop from xs))) (length ls)
 ends-from xs ls from j z o b =
     let e : from + (j - from) ≡ j = omega arith in
     ends-where-begins (drop from xs) ls (j - from) z (rw (drop-drop, e) b)
@@ -133,10 +142,10 @@ full-is-found xs ls from i z l u m =
     let h : length ls ≤ i + 1 = omega (arith, ends-length (m .ends)) in
     let b = begins-where-ends (drop from xs) ls (i + 1) (omega arith) (m .ends) in
     let r =
-        find-at xs ls from 0 (from + (i + 1 - length ls)) z (omega arith) (rw drop-drop at b)
-        (λ j o s c.
-        let k : j - from + length ls ≤ i = omega arith in
-        u (j - from + length ls) (rw (take-take (j - from + length ls) i (letters (drop from xs)) k) (ends-from xs ls from j z (omega arith) c))) in
+    find-at xs ls from 0 (from + (i + 1 - length ls)) z (omega arith) (rw drop-drop at b)
+    (λ j o s c.
+    let k : j - from + length ls ≤ i = omega arith in
+    u (j - from + length ls) (rw (take-take (j - from + length ls) i (letters (drop from xs)) k) (ends-from xs ls from j z (omega arith) c))) in
     omega arith
 
 pub unfound-is-absent : Unfound-is-absent
@@ -151,11 +160,12 @@ unfound-none ls z i e = let n : length (take {A = ℕ} i []) ≤ 0 = simp length
 
 pub unfound-more : (ls t : List ℕ) (x k : ℕ) → Matches ls (t ++ (x ∷ [])) k → k < length ls → Unfound ls t → Unfound ls (t ++ (x ∷ []))
 unfound-more ls t x k m h u i e =
-    elim (cases-lt (length t) i)
-    [ inl l ↦
-        let a = take-all i (t ++ (x ∷ [])) (omega (arith, length-append t (x ∷ []))) in
-        omega (arith, m .longest (length ls) (rw a at e))
-    | inr l ↦ u i (rw take-append-le at e) ]
+    elim (cases-lt (length t) i) [
+      | inl l ↦
+          let a = take-all i (t ++ (x ∷ [])) (omega (arith, length-append t (x ∷ []))) in
+          omega (arith, m .longest (length ls) (rw a at e))
+      | inr l ↦ u i (rw take-append-le at e)
+    ]
 
 -- A search from its first letter to its end: what a caller carries from letter to letter.
 pub seeking-none : (ls ys : List ℕ) → 0 < length ls → Seeking ls ys 0 0
@@ -164,10 +174,12 @@ seeking-none ls ys z = record { short = z; matches = matches-none ls; unfound = 
 step-matches : {ls ys : List ℕ} {i k r : ℕ} → i < length ys → Step ls k (getD ys i 0) r → Seeking ls ys i k → Matches ls (take (i + 1) ys) r
 step-matches {ls} {ys} {i} h s f = rw (take-more ys i 0 h) (s (take i ys) (f .matches))
 
-pub seeking-more : {ls ys : List ℕ} {i k r : ℕ} → i < length ys → Step ls k (getD ys i 0) r → (r ≡ length ls → ⊥) → Seeking ls ys i k → Seeking ls ys (i + 1) r
+pub seeking-more :
+    {ls ys : List ℕ} {i k r : ℕ} → i < length ys → Step ls k (getD ys i 0) r → (r ≡ length ls → ⊥) → Seeking ls ys i k →
+    Seeking ls ys (i + 1) r
 seeking-more {ls} {ys} {i} {k} {r} h s ne f =
     let m = s (take i ys) (f .matches) in
-    let l : r < length ls = elim (cases-lt r (length ls)) [ inl l ↦ l | inr l ↦ absurd (ne (omega (arith, m .ends .fits))) ] in
+    let l : r < length ls = omega (arith, m .ends .fits) in
     record { short = l; matches = step-matches h s f; unfound = rw (take-more ys i 0 h) (unfound-more ls (take i ys) (getD ys i 0) r m l (f .unfound)) }
 
 -- no more match than were read
@@ -176,6 +188,7 @@ seeking-read {ls} {ys} {i} {k} {x} s f =
     let n : length (take i ys) ≤ i = simp length-take (omega arith) in
     omega (arith, ends-length (s (take i ys) (f .matches) .ends), length-append (take i ys) (x ∷ []))
 
+-- all match, so they are found; all was read, so they are not there
 pub seeking-full :
     (xs : List Cell) (ls : List ℕ) (from i k r : ℕ) → from + i < length xs → Step ls k (getD (letters (drop from xs)) i 0) r → r ≡ length ls →
     Seeking ls (letters (drop from xs)) i k → find-in xs ls from 0 ≡ suc (from + (i + 1) - length ls)

@@ -6,7 +6,7 @@ ghost use lib.ListN.{length, drop};
 ghost use Rattle.finder.specs.Laws.{Full-is-found, Unfound-is-absent};
 ghost use Rattle.finder.specs.Match.{Step, Table};
 
-// Fills the table of borders of the letters. What lies past it stays.
+// Fills the table: its entry at k is the length of the longest proper border of the first k + 1 letters. The words past these stay.
 pub fn prepare(letters: &[u8], table: &mut [u32])
     requires { ⌜ 1 ≤ length (now letters) ⌝ ∗ ⌜ length (now letters) ≤ 256 ⌝ }
     requires { ⌜ length (now letters) ≤ length (now table) ⌝ }
@@ -21,7 +21,8 @@ pub fn prepare(letters: &[u8], table: &mut [u32])
     }
 }
 
-// How many of the letters match after one letter more, where `matched` of them matched before it. All match: they are found.
+// How many of the letters stand at the end of a text, after one letter more, where `matched` of them stood there before it. If it is
+// all of them, they are found. Over a whole text the steps back are no more than the steps on.
 pub fn step(letters: &[u8], table: &[u32], matched: usize, letter: u32) -> usize
     requires { ⌜ matched < length (now letters) ⌝ ∗ ⌜ matched ≤ length (now table) ⌝ }
     requires { ⌜ Table (now letters) (now table) matched ⌝ }

@@ -1,3 +1,4 @@
+-- A match falls back from border to border, until the letter goes on with it.
 use native.Mathlib.Omega.{arith}
 use Rattle.finder.proofs.Matching.{falling-first, falling-on, falling-full, falling-none, border-of}
 use Rattle.finder.proofs.step.Needs as need

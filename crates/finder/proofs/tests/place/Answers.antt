@@ -1,3 +1,4 @@
+-- The laws of a search, from letter to letter.
 use native.Mathlib.Omega.{arith}
 use Rattle.finder.proofs.Finding.{seeking-none, seeking-more, seeking-read}
 use Rattle.finder.proofs.tests.place.Needs as need

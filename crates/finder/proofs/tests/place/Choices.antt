@@ -1,3 +1,4 @@
+-- Nothing was found so far.
 use Rattle.finder.specs.Match.{Seeking}
 use Rattle.finder.proofs.tests.place.Given as given
 
