@@ -1,13 +1,13 @@
 -- A call is readable if, and only if, its bytes are below 256.
 use mathlib.Core.Path.{_≡_, refl, sym, _∙_}
-use mathlib.Core.Bool.{Bool, true, false, _&&_, and-assoc, and-true}
-use mathlib.Core.List.{List, [], _∷_, _++_, append-assoc}
+use mathlib.Core.Bool.{_&&_, and-assoc, and-true}
+use mathlib.Core.List.{List, _++_, append-assoc}
 use mathlib.Core.Logic.{inl, inr}
 use Prim.Native.Nat.{ℕ, _/_, _%_}
 use native.Mathlib.Omega.{arith}
 use lib.Dec.{ltb}
 use Rattle.std.proofs.shelf.Tests.{cases-lt, lt-ltb, le-ltb}
-use Rattle.model.specs.Calls.{Call, put, strikes, accepts, rejects, styles, undo, redo, show, find, count, change, save}
+use Rattle.model.specs.Calls.{put, strikes, accepts, rejects, styles, undo, redo, show, find, count, change, save}
 use Rattle.model.specs.Promise.{readable, all-below}
 use Rattle.codec.specs.Bytes.{word-bytes, words-bytes, call-bytes}
 use Rattle.codec.specs.Laws.{Readable-is}

@@ -1,13 +1,13 @@
 -- What bytes read as, by the tests that they pass.
-use mathlib.Core.Path.{_≡_, refl, ap, _∙_}
-use mathlib.Core.Bool.{true, false, _||_}
+use mathlib.Core.Path.{_≡_}
+use mathlib.Core.Bool.{false, _||_}
 use mathlib.Core.List.{List}
 use Prim.Native.Nat.{ℕ, _≤_, _<_}
 use native.Mathlib.Omega.{arith}
 use lib.Dec.{ltb, leb, eqb}
 use lib.ListN.{length, getD, drop}
 use Rattle.std.proofs.shelf.Tests.{eq-eqb, ne-eqb, le-leb, lt-leb, lt-ltb, le-ltb, or-right, or-from}
-use Rattle.codec.specs.Reading.{Reading, reading, call-is, ceases, head-length, whole-length, call-of}
+use Rattle.codec.specs.Reading.{reading, call-is, ceases, head-length, whole-length, call-of}
 
 pub no-byte : (bs : List ℕ) → length bs ≡ 0 → reading bs ≡ ceases 0
 unfolding reading

@@ -1,12 +1,8 @@
 -- The bytes of a call are read as that call.
-use mathlib.Core.Path.{_≡_, _∙_}
-use mathlib.Core.List.{List, []}
-use Prim.Native.Nat.{ℕ, _+_, _≤_}
 use native.Mathlib.Omega.{arith}
-use lib.ListN.{length, getD, drop}
-use Rattle.model.specs.Calls.{Call, put, strikes, accepts, rejects, styles, undo, redo, show, find, count, change, save}
+use lib.ListN.{length}
+use Rattle.model.specs.Calls.{put, strikes, accepts, rejects, styles, undo, redo, show, find, count, change, save}
 use Rattle.codec.specs.Bytes.{word-bytes, words-bytes, call-bytes}
-use Rattle.codec.specs.Reading.{reading, call-is, head-length, whole-length, call-of}
 use Rattle.codec.specs.Laws.{Reads-back}
 use Rattle.codec.proofs.Words.{word-back}
 use Rattle.codec.proofs.Readings.{whole}

@@ -6,3 +6,6 @@ pub mod Values
 pub mod Walk
 pub mod Origin
 pub mod Worked
+pub mod Orders
+pub mod Faults
+pub mod Valid

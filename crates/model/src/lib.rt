@@ -1,5 +1,6 @@
 // What a paper is on which several people write: the structs that the code passes around, and the laws of their meaning (specs/).
 
+pub mod changes;
 pub mod letters;
 
 // A letter with a style. `put_in` and `struck` name the open change that put it in or struck it out: 0 for none, else one more

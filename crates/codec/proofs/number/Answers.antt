@@ -1,5 +1,4 @@
 -- Four bytes, one after another.
-use Prim.Native.Nat.{_%_, _/_}
 use mathlib.Core.Path.{refl}
 use native.Mathlib.Numerals.{towards-suc}
 use Rattle.codec.specs.Bytes.{word-bytes}

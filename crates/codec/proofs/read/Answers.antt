@@ -1,11 +1,10 @@
 -- Each way out of the tests is a way that bytes can read.
-use mathlib.Core.Path.{_≡_, ap, _∙_}
+use mathlib.Core.Path.{_≡_}
 use Prim.Native.Nat.{_+_, _≤_, _<_}
 use native.Mathlib.Omega.{arith}
 use lib.ListN.{length, getD, drop}
 use Rattle.std.proofs.shelf.Lists.{take-rest}
-use Rattle.codec.specs.Reading.{reading, ceases, call-is, head-length, whole-length}
-use Rattle.codec.specs.Values.{meaning}
+use Rattle.codec.specs.Reading.{head-length, whole-length}
 use Rattle.codec.proofs.Readings.{no-byte, no-call, few-fields, few-letters, too-many, whole}
 use Rattle.codec.proofs.read.Needs as need
 use Rattle.codec.proofs.read.Needs.{then-len-eq0·by·then-len-eq0, then-len-eq0·by·else-len-eq0·then-bytes-ge12}
