@@ -1,0 +1,57 @@
+-- Calls as lines of text. A line is a word, a space and a number for each of the call's numbers, and for put and find a space and the
+-- letters between quotes. Here: the line of a call, and the reading of a line, either as a call or to the first byte that does not fit.
+-- Definitions only: nothing is assumed.
+use mathlib.Core.Path.{_≡_}
+use mathlib.Core.Bool.{Bool, true, false, _&&_, _||_}
+use mathlib.Core.List.{List, [], _∷_, _++_}
+use Prim.Native.Nat.{ℕ, zero, suc, _+_, _*_, _-_, _≤_, _<_, max}
+use lib.Chars.{codes}
+use lib.Dec.{ltb, leb, eqb}
+use lib.ListN.{length, getD, drop}
+use Rattle.std.specs.Written.{decimal}
+use Rattle.std.specs.declared.result.Result.{Result}
+use Rattle.std.specs.declared.result.Result.the-variants.{Ok, Err}
+use Rattle.model.specs.Paper.{pick}
+use Rattle.model.specs.Calls.{Call, put, strikes, accepts, rejects, styles, undo, redo, show, find, count, change, save}
+
+-- A part of a line is read: what it says and what is left of the line after it; or what is left from the first byte on that does not fit.
+pub data Step (A : Type 0) : Type 0 where
+  got : A → List ℕ → Step A
+  stop : List ℕ → Step A
+
+abbrev pub and-then : {A B : Type 0} → Step A → (A → List ℕ → Step B) → Step B
+and-then (got a rest) f = f a rest
+and-then (stop rest) f = stop rest
+
+-- the bytes of a word
+unfoldable pub literal-in : List ℕ → List ℕ → Step (Unit {0})
+literal-in [] xs = got tt xs
+literal-in (w ∷ ws) [] = stop []
+literal-in (w ∷ ws) (x ∷ xs) = pick (eqb x w) (literal-in ws xs) (stop (x ∷ xs))
+
+abbrev pub digit : ℕ → Bool
+digit x = leb 48 x && leb x 57
+
+-- digits after the first; n is the number so far, which stays below 4294967296
+unfoldable pub digits-in : ℕ → List ℕ → Step ℕ
+digits-in n [] = got n []
+digits-in n (x ∷ xs) =
+    pick (digit x)
+        (pick (ltb (n * 10 + (x - 48)) 4294967296) (digits-in (n * 10 + (x - 48)) xs) (stop (x ∷ xs)))
+        (got n (x ∷ xs))
+
+-- a number: 0, or digits that do not begin with 0
+unfoldable pub number-in : List ℕ → Step ℕ
+number-in [] = stop []
+number-in (x ∷ xs) = pick (eqb x 48) (got 0 xs) (pick (digit x) (digits-in (x - 48) xs) (stop (x ∷ xs)))
+
+-- The code holds a place in the line xs, where the definitions hold what is left. What it answers for a part of the line: the value and
+-- the place after it, or the place of the first byte that does not fit.
+abbrev pub Reads : {A : Type 0} → Step A → List ℕ → Result (A × ℕ) ℕ → Type 0
+Reads s xs (Ok p) = (s ≡ got (p .0) (drop (p .1) xs)) × (p .1 ≤ length xs)
+Reads s xs (Err i) = (s ≡ stop (drop i xs)) × (i ≤ length xs)
+
+-- the same for a part that has no value
+abbrev pub Passes : Step (Unit {0}) → List ℕ → Result ℕ ℕ → Type 0
+Passes s xs (Ok i) = (s ≡ got tt (drop i xs)) × (i ≤ length xs)
+Passes s xs (Err i) = (s ≡ stop (drop i xs)) × (i ≤ length xs)

@@ -1,0 +1,2 @@
+// Calls and answers as lines of text.
+mod reader;
