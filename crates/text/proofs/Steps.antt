@@ -6,11 +6,11 @@ use mathlib.Core.List.{List, [], _∷_, _++_}
 use Prim.Native.Nat.{ℕ, zero, suc, _+_, _*_, _-_, _≤_, _<_}
 use native.Mathlib.Omega.{arith}
 use lib.Dec.{ltb, leb, eqb}
-use lib.ListN.{length, getD, drop}
-use Rattle.std.proofs.shelf.Lists.{drop-more, drop-all}
+use lib.ListN.{length, getD, take, drop, set}
+use Rattle.std.proofs.shelf.Lists.{drop-more, drop-all, take-more-set}
 use Rattle.std.proofs.shelf.Tests.{eq-eqb, ne-eqb, lt-ltb, le-ltb, le-leb, lt-leb}
 use Rattle.model.specs.Paper.{pick}
-use Rattle.text.specs.Lines.{Step, got, stop, literal-in, digit, digits-in, number-in}
+use Rattle.text.specs.Lines.{Step, got, stop, and-then, literal-in, digit, digits-in, number-in, field-in, numbers-in}
 
 -- x is no digit, as a test finds it
 abbrev pub NoDigit : ℕ → Type 0
@@ -78,3 +78,21 @@ module _ (xs : List ℕ) (i : ℕ) where
       let ne : getD xs i 0 ≡ 48 → ⊥ = λ e. omega arith in
       let le : 48 ≤ getD xs i 0 = omega arith in
       rw (drop-more xs i 0 k, ne-eqb (getD xs i 0) 48 ne, is-digit (getD xs i 0) le b)
+
+-- the next of n numbers, after j of them
+numbers-next : (n j : ℕ) (ns xs : List ℕ) (s : Step ℕ) → j < n → field-in xs ≡ s → numbers-in (n - j) ns xs ≡ and-then s (λ v ys. numbers-in (n - (j + 1)) (ns ++ (v ∷ [])) ys)
+unfolding numbers-in
+numbers-next n j ns xs s h e =
+    let one : n - j ≡ suc (n - (j + 1)) = omega arith in
+    ap (λ k. numbers-in k ns xs) one ∙ ap (λ r. and-then r (λ v ys. numbers-in (n - (j + 1)) (ns ++ (v ∷ [])) ys)) e
+
+pub numbers-more : (n j : ℕ) (all xs ys : List ℕ) (v : ℕ) → j < n → j < length all → field-in xs ≡ got v ys → numbers-in (n - j) (take j all) xs ≡ numbers-in (n - (j + 1)) (take (j + 1) (set all j v)) ys
+numbers-more n j all xs ys v h k e =
+    numbers-next n j (take j all) xs (got v ys) h e ∙ ap (λ ns. numbers-in (n - (j + 1)) ns ys) (sym (take-more-set all j v k))
+
+pub numbers-stop : (n j : ℕ) (ns xs ys : List ℕ) → j < n → field-in xs ≡ stop ys → numbers-in (n - j) ns xs ≡ stop ys
+numbers-stop n j ns xs ys h e = numbers-next n j ns xs (stop ys) h e
+
+pub numbers-done : (n j : ℕ) (ns xs : List ℕ) → n ≤ j → numbers-in (n - j) ns xs ≡ got ns xs
+unfolding numbers-in
+numbers-done n j ns xs h = let e : n - j ≡ 0 = omega arith in ap (λ k. numbers-in k ns xs) e

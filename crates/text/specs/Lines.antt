@@ -7,7 +7,7 @@ use mathlib.Core.List.{List, [], _∷_, _++_}
 use Prim.Native.Nat.{ℕ, zero, suc, _+_, _*_, _-_, _≤_, _<_, max}
 use lib.Chars.{codes}
 use lib.Dec.{ltb, leb, eqb}
-use lib.ListN.{length, getD, drop}
+use lib.ListN.{length, getD, take, drop}
 use Rattle.std.specs.Written.{decimal}
 use Rattle.std.specs.declared.result.Result.{Result}
 use Rattle.std.specs.declared.result.Result.the-variants.{Ok, Err}
@@ -45,6 +45,19 @@ unfoldable pub number-in : List ℕ → Step ℕ
 number-in [] = stop []
 number-in (x ∷ xs) = pick (eqb x 48) (got 0 xs) (pick (digit x) (digits-in (x - 48) xs) (stop (x ∷ xs)))
 
+-- a number after a space
+abbrev pub field-in : List ℕ → Step ℕ
+field-in xs = and-then (literal-in (codes " ") xs) (λ _ ys. number-in ys)
+
+-- n numbers more, each after a space; ns are the numbers before them
+unfoldable pub numbers-in : ℕ → List ℕ → List ℕ → Step (List ℕ)
+numbers-in zero ns xs = got ns xs
+numbers-in (suc n) ns xs = and-then (field-in xs) (λ v ys. numbers-in n (ns ++ (v ∷ [])) ys)
+
+-- a word and n numbers
+abbrev pub head-in : List ℕ → ℕ → List ℕ → Step (List ℕ)
+head-in word n xs = and-then (literal-in word xs) (λ _ ys. numbers-in n [] ys)
+
 -- The code holds a place in the line xs, where the definitions hold what is left. What it answers for a part of the line: the value and
 -- the place after it, or the place of the first byte that does not fit.
 abbrev pub Reads : {A : Type 0} → Step A → List ℕ → Result (A × ℕ) ℕ → Type 0
@@ -55,3 +68,8 @@ Reads s xs (Err i) = (s ≡ stop (drop i xs)) × (i ≤ length xs)
 abbrev pub Passes : Step (Unit {0}) → List ℕ → Result ℕ ℕ → Type 0
 Passes s xs (Ok i) = (s ≡ got tt (drop i xs)) × (i ≤ length xs)
 Passes s xs (Err i) = (s ≡ stop (drop i xs)) × (i ≤ length xs)
+
+-- and for n numbers, the first of an array
+abbrev pub ReadsFirst : ℕ → Step (List ℕ) → List ℕ → Result (List ℕ × ℕ) ℕ → Type 0
+ReadsFirst n s xs (Ok p) = (s ≡ got (take n (p .0)) (drop (p .1) xs)) × (p .1 ≤ length xs)
+ReadsFirst n s xs (Err i) = (s ≡ stop (drop i xs)) × (i ≤ length xs)

@@ -1,9 +1,10 @@
 // A line of text to the bytes of a call. Each part of a line has a function, which takes the place where the part begins and gives the
 // place after it, or the place of the first byte that does not fit.
 ghost use mathlib.Core.Path.{_≡_};
+ghost use mathlib.Core.List.{[], _∷_};
 ghost use Prim.Native.Nat.{ℕ, _+_, _-_, _*_, _<_, _≤_};
 ghost use lib.ListN.{length, getD, drop, take};
-ghost use Rattle.text.specs.Lines.{literal-in, digits-in, number-in, Reads, Passes};
+ghost use Rattle.text.specs.Lines.{literal-in, digits-in, number-in, field-in, numbers-in, head-in, Reads, Passes, ReadsFirst};
 
 // The bytes of `word`.
 fn literal(line: &[u8], at: usize, word: &[u8]) -> Result<usize, usize>
@@ -55,4 +56,36 @@ fn number(line: &[u8], at: usize) -> Result<(u32, usize), usize>
         return Err(at);
     }
     digits(line, at + 1, (x - b'0') as u32)
+}
+
+// A space and a number.
+fn field(line: &[u8], at: usize) -> Result<(u32, usize), usize>
+    requires { ⌜ at ≤ length (now line) ⌝ }
+    ensures { λ r. ⌜ Reads (field-in (drop at (now (line .entry)))) (now (line .entry)) r ⌝ }
+{
+    let at = literal(line, at, b" ")?;
+    number(line, at)
+}
+
+// `count` numbers, each after a space: the first of the array.
+fn numbers(line: &[u8], mut at: usize, count: usize) -> Result<([u32; 4], usize), usize>
+    requires { ⌜ at ≤ length (now line) ⌝ ∗ ⌜ count ≤ 4 ⌝ }
+    ensures { λ r. ⌜ ReadsFirst count (numbers-in count [] (drop at (now (line .entry)))) (now (line .entry)) r ⌝ }
+{
+    let mut all = [0; 4];
+    for j in 0..count {
+        let (n, next) = field(line, at)?;
+        all[j] = n;
+        at = next;
+    }
+    Ok((all, at))
+}
+
+// A word and `count` numbers.
+fn head(line: &[u8], word: &[u8], count: usize) -> Result<([u32; 4], usize), usize>
+    requires { ⌜ count ≤ 4 ⌝ }
+    ensures { λ r. ⌜ ReadsFirst count (head-in (now (word .entry)) count (now (line .entry))) (now (line .entry)) r ⌝ }
+{
+    let at = literal(line, 0, word)?;
+    numbers(line, at, count)
 }
