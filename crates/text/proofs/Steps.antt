@@ -10,7 +10,9 @@ use lib.ListN.{length, getD, take, drop, set}
 use Rattle.std.proofs.shelf.Lists.{drop-more, drop-all, take-more-set}
 use Rattle.std.proofs.shelf.Tests.{eq-eqb, ne-eqb, lt-ltb, le-ltb, le-leb, lt-leb}
 use Rattle.model.specs.Paper.{pick}
-use Rattle.text.specs.Lines.{Step, got, stop, and-then, literal-in, digit, digits-in, number-in, field-in, numbers-in}
+use Rattle.text.specs.Lines.{Step, got, stop, and-then, literal-in, digit, digits-in, number-in, field-in, numbers-in, mark-of, letters-in}
+use Rattle.text.specs.declared.reader.Mark.{Mark}
+use Rattle.text.specs.declared.reader.Mark.the-variants.{Letter, Backslash, Quote, Wrong}
 
 -- x is no digit, as a test finds it
 abbrev pub NoDigit : ℕ → Type 0
@@ -96,3 +98,23 @@ numbers-stop n j ns xs ys h e = numbers-next n j ns xs (stop ys) h e
 pub numbers-done : (n j : ℕ) (ns xs : List ℕ) → n ≤ j → numbers-in (n - j) ns xs ≡ got ns xs
 unfolding numbers-in
 numbers-done n j ns xs h = let e : n - j ≡ 0 = omega arith in ap (λ k. numbers-in k ns xs) e
+
+-- letters after a byte of which the mark is known, where `from` begins with the byte and `rest` follows it
+abbrev pub after-mark : List ℕ → List ℕ → List ℕ → Mark → Step (List ℕ)
+after-mark ls from rest (Letter l) = letters-in false (ls ++ (l ∷ [])) rest
+after-mark ls from rest Backslash = letters-in true ls rest
+after-mark ls from rest Quote = got ls rest
+after-mark ls from rest Wrong = stop from
+
+letters-cons : (e : Bool) (ls : List ℕ) (x : ℕ) (xs : List ℕ) (m : Mark) → mark-of e x ≡ m → letters-in e ls (x ∷ xs) ≡ after-mark ls (x ∷ xs) xs m
+unfolding letters-in
+letters-cons e ls x xs m h = ap (after-mark ls (x ∷ xs) xs) h
+
+pub letters-next : (e : Bool) (ls xs : List ℕ) (i : ℕ) (m : Mark) → i < length xs → m ≡ mark-of e (getD xs i 0) → letters-in e ls (drop i xs) ≡ after-mark ls (drop i xs) (drop (i + 1) xs) m
+letters-next e ls xs i m h k =
+    let d = drop-more xs i 0 h in
+    rw d (letters-cons e ls (getD xs i 0) (drop (i + 1) xs) m (sym k))
+
+pub letters-short : (e : Bool) (ls xs : List ℕ) (i : ℕ) → length xs ≤ i → letters-in e ls (drop i xs) ≡ stop (drop i xs)
+unfolding letters-in
+letters-short e ls xs i h = rw (drop-all i xs h)

@@ -11,6 +11,10 @@ use lib.ListN.{length, getD, take, drop}
 use Rattle.std.specs.Written.{decimal}
 use Rattle.std.specs.declared.result.Result.{Result}
 use Rattle.std.specs.declared.result.Result.the-variants.{Ok, Err}
+use Rattle.text.specs.declared.fault.Fault.{Fault}
+use Rattle.text.specs.declared.fault.Fault.the-variants.{Place, Memory}
+use Rattle.text.specs.declared.reader.Mark.{Mark}
+use Rattle.text.specs.declared.reader.Mark.the-variants.{Letter, Backslash, Quote, Wrong}
 use Rattle.model.specs.Paper.{pick}
 use Rattle.model.specs.Calls.{Call, put, strikes, accepts, rejects, styles, undo, redo, show, find, count, change, save}
 
@@ -58,6 +62,27 @@ numbers-in (suc n) ns xs = and-then (field-in xs) (λ v ys. numbers-in n (ns ++ 
 abbrev pub head-in : List ℕ → ℕ → List ℕ → Step (List ℕ)
 head-in word n xs = and-then (literal-in word xs) (λ _ ys. numbers-in n [] ys)
 
+-- What a byte between quotes is, after a backslash or not: a letter, the backslash before one, the closing quote, or nothing that fits.
+-- The end of a paragraph, a quote and a backslash are written with a backslash before them; any other byte but 10 is itself.
+abbrev pub mark-of : Bool → ℕ → Mark
+mark-of true x = pick (eqb x 110) (Letter 10) (pick (eqb x 34) (Letter 34) (pick (eqb x 92) (Letter 92) Wrong))
+mark-of false x = pick (eqb x 34) Quote (pick (eqb x 92) Backslash (pick (eqb x 10) Wrong (Letter x)))
+
+-- letters up to the closing quote; ls are those so far, and `escaped` says that a backslash came right before
+unfoldable pub letters-in : Bool → List ℕ → List ℕ → Step (List ℕ)
+letters-in escaped ls [] = stop []
+letters-in escaped ls (x ∷ xs) =
+    elim (mark-of escaped x) [
+      Letter l ↦ letters-in false (ls ++ (l ∷ [])) xs
+    | Backslash ↦ letters-in true ls xs
+    | Quote ↦ got ls xs
+    | Wrong ↦ stop (x ∷ xs)
+    ]
+
+-- letters between quotes, after a space
+abbrev pub quoted-in : List ℕ → Step (List ℕ)
+quoted-in xs = and-then (literal-in (32 ∷ (34 ∷ [])) xs) (λ _ ys. letters-in false [] ys)
+
 -- The code holds a place in the line xs, where the definitions hold what is left. What it answers for a part of the line: the value and
 -- the place after it, or the place of the first byte that does not fit.
 abbrev pub Reads : {A : Type 0} → Step A → List ℕ → Result (A × ℕ) ℕ → Type 0
@@ -73,3 +98,9 @@ Passes s xs (Err i) = (s ≡ stop (drop i xs)) × (i ≤ length xs)
 abbrev pub ReadsFirst : ℕ → Step (List ℕ) → List ℕ → Result (List ℕ × ℕ) ℕ → Type 0
 ReadsFirst n s xs (Ok p) = (s ≡ got (take n (p .0)) (drop (p .1) xs)) × (p .1 ≤ length xs)
 ReadsFirst n s xs (Err i) = (s ≡ stop (drop i xs)) × (i ≤ length xs)
+
+-- and for letters, which the code appends to those in a vector, that then has ls
+abbrev pub Spells : Step (List ℕ) → List ℕ → List ℕ → Result ℕ Fault → Type 0
+Spells s xs ls (Ok i) = (s ≡ got ls (drop i xs)) × (i ≤ length xs)
+Spells s xs ls (Err (Place i)) = (s ≡ stop (drop i xs)) × (i ≤ length xs)
+Spells s xs ls (Err Memory) = Unit {0}

@@ -1,2 +1,3 @@
 // Calls and answers as lines of text.
+mod fault;
 mod reader;

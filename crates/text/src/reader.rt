@@ -2,9 +2,24 @@
 // place after it, or the place of the first byte that does not fit.
 ghost use mathlib.Core.Path.{_≡_};
 ghost use mathlib.Core.List.{[], _∷_};
+ghost use mathlib.Core.Bool.{false};
+ghost use Rattle.std.specs.Of.Vec.{vec-items};
 ghost use Prim.Native.Nat.{ℕ, _+_, _-_, _*_, _<_, _≤_};
 ghost use lib.ListN.{length, getD, drop, take};
-ghost use Rattle.text.specs.Lines.{literal-in, digits-in, number-in, field-in, numbers-in, head-in, Reads, Passes, ReadsFirst};
+ghost use Rattle.text.specs.Lines.{literal-in, digits-in, number-in, field-in, numbers-in, head-in, mark-of, letters-in, quoted-in, Reads, Passes, ReadsFirst, Spells};
+
+use crate::fault::Fault;
+use crate::fault::FaultFromAlloc;
+use crate::fault::FaultFromPlace;
+use crate::fault::FaultFromRefused;
+
+// What a byte between quotes is.
+enum Mark {
+    Letter(u8),
+    Backslash,
+    Quote,
+    Wrong,
+}
 
 // The bytes of `word`.
 fn literal(line: &[u8], at: usize, word: &[u8]) -> Result<usize, usize>
@@ -88,4 +103,53 @@ fn head(line: &[u8], word: &[u8], count: usize) -> Result<([u32; 4], usize), usi
 {
     let at = literal(line, 0, word)?;
     numbers(line, at, count)
+}
+
+fn meaning(escaped: bool, x: u8) -> Mark
+    ensures { λ r. ⌜ r ≡ mark-of escaped x ⌝ }
+{
+    if escaped {
+        match x {
+            b'n' => Mark::Letter(b'\n'),
+            b'"' => Mark::Letter(b'"'),
+            b'\\' => Mark::Letter(b'\\'),
+            _ => Mark::Wrong,
+        }
+    } else {
+        match x {
+            b'"' => Mark::Quote,
+            b'\\' => Mark::Backslash,
+            b'\n' => Mark::Wrong,
+            _ => Mark::Letter(x),
+        }
+    }
+}
+
+// Letters up to the closing quote, appended to `text`.
+fn letters(line: &[u8], at: usize, text: &mut Vec<u8>) -> Result<usize, Fault>
+    requires { ⌜ at ≤ length (now line) ⌝ }
+    ensures { λ r. ⌜ Spells (letters-in false (vec-items (now (text .entry))) (drop at (now (line .entry)))) (now (line .entry)) (vec-items (now (text .exit))) r ⌝ }
+{
+    let mut escaped = false;
+    for i in at..line.len() {
+        match meaning(escaped, line[i]) {
+            Mark::Letter(x) => {
+                text.push(x)?;
+                escaped = false;
+            }
+            Mark::Backslash => escaped = true,
+            Mark::Quote => return Ok(i + 1),
+            Mark::Wrong => return Err(Fault::Place(i)),
+        }
+    }
+    Err(Fault::Place(line.len()))
+}
+
+// Letters between quotes, after a space.
+fn quoted(line: &[u8], at: usize, text: &mut Vec<u8>) -> Result<usize, Fault>
+    requires { ⌜ at ≤ length (now line) ⌝ ∗ ⌜ vec-items (now text) ≡ [] ⌝ }
+    ensures { λ r. ⌜ Spells (quoted-in (drop at (now (line .entry)))) (now (line .entry)) (vec-items (now (text .exit))) r ⌝ }
+{
+    let at = literal(line, at, b" \"")?;
+    letters(line, at, text)
 }
