@@ -83,6 +83,76 @@ letters-in escaped ls (x ∷ xs) =
 abbrev pub quoted-in : List ℕ → Step (List ℕ)
 quoted-in xs = and-then (literal-in (32 ∷ (34 ∷ [])) xs) (λ _ ys. letters-in false [] ys)
 
+-- the letters, where a line has any
+abbrev pub tail-in : Bool → List ℕ → Step (List ℕ)
+tail-in lettered xs = pick lettered (quoted-in xs) (got [] xs)
+
+-- the line ends here
+abbrev pub ended : {A : Type 0} → A → List ℕ → Step A
+ended a [] = got a []
+ended a (x ∷ xs) = stop (x ∷ xs)
+
+-- The shape of a call's line: its word, how many numbers, and whether letters come last.
+pub record Shape : Type 0 where
+  pub word : List ℕ
+  pub count : ℕ
+  pub lettered : Bool
+
+abbrev pub shape : List ℕ → ℕ → Bool → Shape
+shape w n l = record { word = w; count = n; lettered = l }
+
+-- by the call's number
+abbrev pub shape-of : ℕ → Shape
+shape-of k =
+    pick (eqb k 0) (shape (codes "put") 3 true)
+    (pick (eqb k 1) (shape (codes "strike") 3 false)
+    (pick (eqb k 2) (shape (codes "accept") 1 false)
+    (pick (eqb k 3) (shape (codes "reject") 1 false)
+    (pick (eqb k 4) (shape (codes "style") 3 false)
+    (pick (eqb k 5) (shape (codes "undo") 0 false)
+    (pick (eqb k 6) (shape (codes "redo") 0 false)
+    (pick (eqb k 7) (shape (codes "show") 4 false)
+    (pick (eqb k 8) (shape (codes "find") 2 true)
+    (pick (eqb k 9) (shape (codes "count") 1 false)
+    (pick (eqb k 10) (shape (codes "change") 1 false)
+    (shape (codes "save") 2 false)))))))))))
+
+-- the call of number k with the numbers ns and the letters ls
+unfoldable pub call-of : ℕ → List ℕ → List ℕ → Call
+call-of k ns ls =
+    pick (eqb k 0) (put (getD ns 0 0) (getD ns 1 0) (getD ns 2 0) ls)
+    (pick (eqb k 1) (strikes (getD ns 0 0) (getD ns 1 0) (getD ns 2 0))
+    (pick (eqb k 2) (accepts (getD ns 0 0))
+    (pick (eqb k 3) (rejects (getD ns 0 0))
+    (pick (eqb k 4) (styles (getD ns 0 0) (getD ns 1 0) (getD ns 2 0))
+    (pick (eqb k 5) undo
+    (pick (eqb k 6) redo
+    (pick (eqb k 7) (show (getD ns 0 0) (getD ns 1 0) (getD ns 2 0) (getD ns 3 0))
+    (pick (eqb k 8) (find (getD ns 0 0) (getD ns 1 0) ls)
+    (pick (eqb k 9) (count (getD ns 0 0))
+    (pick (eqb k 10) (change (getD ns 0 0))
+    (save (getD ns 0 0) (getD ns 1 0))))))))))))
+
+-- a whole line, read as call number k
+abbrev pub call-in : ℕ → List ℕ → Step Call
+call-in k xs =
+    and-then (head-in (shape-of k .word) (shape-of k .count) xs)
+    (λ ns ys. and-then (tail-in (shape-of k .lettered) ys) (λ ls zs. ended (call-of k ns ls) zs))
+
+-- What a line is: a call, or nothing that can be read, and then the place of the first byte that does not fit.
+pub data Reading : Type 0 where
+  call-is : Call → Reading
+  ceases : ℕ → Reading
+
+-- The line xs is tried as each of the n calls from number k on; far is the furthest place at which one of those before ceased.
+unfoldable pub reading-from : ℕ → ℕ → ℕ → List ℕ → Reading
+reading-from zero k far xs = ceases far
+reading-from (suc n) k far xs =
+    elim (call-in k xs) [ got c rest ↦ call-is c | stop rest ↦ reading-from n (k + 1) (max far (length xs - length rest)) xs ]
+
+abbrev pub line-reading : List ℕ → Reading
+line-reading xs = reading-from 12 0 0 xs
+
 -- The code holds a place in the line xs, where the definitions hold what is left. What it answers for a part of the line: the value and
 -- the place after it, or the place of the first byte that does not fit.
 abbrev pub Reads : {A : Type 0} → Step A → List ℕ → Result (A × ℕ) ℕ → Type 0
@@ -104,3 +174,14 @@ abbrev pub Spells : Step (List ℕ) → List ℕ → List ℕ → Result ℕ Fau
 Spells s xs ls (Ok i) = (s ≡ got ls (drop i xs)) × (i ≤ length xs)
 Spells s xs ls (Err (Place i)) = (s ≡ stop (drop i xs)) × (i ≤ length xs)
 Spells s xs ls (Err Memory) = Unit {0}
+
+-- and for a whole line as call number k, where ls is what the vector has then
+abbrev pub Parses : ℕ → List ℕ → List ℕ → Result (List ℕ) Fault → Type 0
+Parses k xs ls (Ok ns) = call-in k xs ≡ got (call-of k (take (shape-of k .count) ns) ls) []
+Parses k xs ls (Err (Place i)) = (call-in k xs ≡ stop (drop i xs)) × (i ≤ length xs)
+Parses k xs ls (Err Memory) = Unit {0}
+
+-- want of memory is the only fault
+abbrev pub Lacks : Fault → Type 0
+Lacks (Place i) = ⊥
+Lacks Memory = Unit {0}

@@ -1,13 +1,18 @@
 // A line of text to the bytes of a call. Each part of a line has a function, which takes the place where the part begins and gives the
 // place after it, or the place of the first byte that does not fit.
 ghost use mathlib.Core.Path.{_≡_};
-ghost use mathlib.Core.List.{[], _∷_};
-ghost use mathlib.Core.Bool.{false};
+ghost use mathlib.Core.List.{[], _∷_, _++_};
+ghost use mathlib.Core.Bool.{false, cond};
 ghost use Rattle.std.specs.Of.Vec.{vec-items};
+ghost use Rattle.std.specs.Results.{isOk, Cases};
+ghost use Rattle.model.specs.Paper.{pick};
+ghost use Rattle.codec.specs.Bytes.{word-bytes, words-bytes};
 ghost use Prim.Native.Nat.{ℕ, _+_, _-_, _*_, _<_, _≤_};
 ghost use lib.ListN.{length, getD, drop, take};
-ghost use Rattle.text.specs.Lines.{literal-in, digits-in, number-in, field-in, numbers-in, head-in, mark-of, letters-in, quoted-in, Reads, Passes, ReadsFirst, Spells};
+ghost use Rattle.text.specs.Lines.{literal-in, digits-in, number-in, field-in, numbers-in, head-in, mark-of, letters-in, quoted-in, tail-in, shape-of, Reads, Passes, ReadsFirst, Spells, Parses, Lacks};
 
+use std::alloc::AllocError;
+use std::alloc::Global;
 use crate::fault::Fault;
 use crate::fault::FaultFromAlloc;
 use crate::fault::FaultFromPlace;
@@ -19,6 +24,34 @@ enum Mark {
     Backslash,
     Quote,
     Wrong,
+}
+
+// The shape of a call's line.
+#[derive(Drop)]
+struct Form {
+    word: &'static [u8],
+    count: usize,
+    lettered: bool,
+}
+
+// By the call's number.
+fn form_of(k: u8) -> Form
+    ensures { λ r. ⌜ (now (r .word) ≡ shape-of k .word) × (r .count ≡ shape-of k .count) × (r .lettered ≡ shape-of k .lettered) × (r .count ≤ 4) ⌝ }
+{
+    match k {
+        0 => Form { word: b"put", count: 3, lettered: true },
+        1 => Form { word: b"strike", count: 3, lettered: false },
+        2 => Form { word: b"accept", count: 1, lettered: false },
+        3 => Form { word: b"reject", count: 1, lettered: false },
+        4 => Form { word: b"style", count: 3, lettered: false },
+        5 => Form { word: b"undo", count: 0, lettered: false },
+        6 => Form { word: b"redo", count: 0, lettered: false },
+        7 => Form { word: b"show", count: 4, lettered: false },
+        8 => Form { word: b"find", count: 2, lettered: true },
+        9 => Form { word: b"count", count: 1, lettered: false },
+        10 => Form { word: b"change", count: 1, lettered: false },
+        _ => Form { word: b"save", count: 2, lettered: false },
+    }
 }
 
 // The bytes of `word`.
@@ -152,4 +185,51 @@ fn quoted(line: &[u8], at: usize, text: &mut Vec<u8>) -> Result<usize, Fault>
 {
     let at = literal(line, at, b" \"")?;
     letters(line, at, text)
+}
+
+// The letters, where the line has any.
+fn tail(line: &[u8], at: usize, lettered: bool, text: &mut Vec<u8>) -> Result<usize, Fault>
+    requires { ⌜ at ≤ length (now line) ⌝ ∗ ⌜ vec-items (now text) ≡ [] ⌝ }
+    ensures { λ r. ⌜ Spells (tail-in lettered (drop at (now (line .entry)))) (now (line .entry)) (vec-items (now (text .exit))) r ⌝ }
+{
+    if lettered { quoted(line, at, text) } else { Ok(at) }
+}
+
+// A whole line as call number `k`: its numbers, the first of the array, and its letters, in `text`.
+fn parse(line: &[u8], k: u8, text: &mut Vec<u8>) -> Result<[u32; 4], Fault>
+    requires { ⌜ vec-items (now text) ≡ [] ⌝ }
+    ensures { λ r. ⌜ Parses k (now (line .entry)) (vec-items (now (text .exit))) r ⌝ }
+{
+    let form = form_of(k);
+    let (numbers, at) = head(line, form.word, form.count)?;
+    let end = tail(line, at, form.lettered, text)?;
+    if end < line.len() {
+        return Err(Fault::Place(end));
+    }
+    Ok(numbers)
+}
+
+fn push_word(out: &mut Vec<u8>, n: u32) -> Result<(), AllocError>
+    ensures { λ r. ⌜ vec-items (now (out .exit)) ≡ cond (isOk r) (vec-items (now (out .entry)) ++ word-bytes n) (vec-items (now (out .entry))) ⌝ }
+{
+    out.extend_from_slice(&n.to_le_bytes())
+}
+
+// The bytes of call number `k`.
+fn write_call(heap: Global, k: u8, numbers: &[u32], lettered: bool, text: &[u8]) -> Result<Vec<u8>, Fault>
+    ensures { λ r. ⌜ Cases r (λ v. vec-items v ≡ k ∷ (words-bytes (now (numbers .entry)) ++ pick lettered (word-bytes (length (now (text .entry))) ++ now (text .entry)) [])) Lacks ⌝ }
+{
+    let mut out = Vec::new(heap);
+    out.push(k)?;
+    for n in numbers {
+        push_word(&mut out, *n)?;
+    }
+    if lettered {
+        let Ok(count) = u32::try_from(text.len()) else {
+            return Err(Fault::Memory);
+        };
+        push_word(&mut out, count)?;
+        out.extend_from_slice(text)?;
+    }
+    Ok(out)
 }
