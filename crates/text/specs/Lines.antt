@@ -11,6 +11,7 @@ use lib.ListN.{length, getD, take, drop}
 use Rattle.std.specs.Written.{decimal}
 use Rattle.std.specs.declared.result.Result.{Result}
 use Rattle.std.specs.declared.result.Result.the-variants.{Ok, Err}
+use Rattle.codec.specs.Bytes.{call-bytes}
 use Rattle.text.specs.declared.fault.Fault.{Fault}
 use Rattle.text.specs.declared.fault.Fault.the-variants.{Place, Memory}
 use Rattle.text.specs.declared.reader.Mark.{Mark}
@@ -164,9 +165,9 @@ abbrev pub Passes : Step (Unit {0}) → List ℕ → Result ℕ ℕ → Type 0
 Passes s xs (Ok i) = (s ≡ got tt (drop i xs)) × (i ≤ length xs)
 Passes s xs (Err i) = (s ≡ stop (drop i xs)) × (i ≤ length xs)
 
--- and for n numbers, the first of an array
+-- and for n numbers, the first of an array of four
 abbrev pub ReadsFirst : ℕ → Step (List ℕ) → List ℕ → Result (List ℕ × ℕ) ℕ → Type 0
-ReadsFirst n s xs (Ok p) = (s ≡ got (take n (p .0)) (drop (p .1) xs)) × (p .1 ≤ length xs)
+ReadsFirst n s xs (Ok p) = (s ≡ got (take n (p .0)) (drop (p .1) xs)) × (p .1 ≤ length xs) × (length (p .0) ≡ 4)
 ReadsFirst n s xs (Err i) = (s ≡ stop (drop i xs)) × (i ≤ length xs)
 
 -- and for letters, which the code appends to those in a vector, that then has ls
@@ -177,7 +178,7 @@ Spells s xs ls (Err Memory) = Unit {0}
 
 -- and for a whole line as call number k, where ls is what the vector has then
 abbrev pub Parses : ℕ → List ℕ → List ℕ → Result (List ℕ) Fault → Type 0
-Parses k xs ls (Ok ns) = call-in k xs ≡ got (call-of k (take (shape-of k .count) ns) ls) []
+Parses k xs ls (Ok ns) = (call-in k xs ≡ got (call-of k (take (shape-of k .count) ns) ls) []) × (length ns ≡ 4)
 Parses k xs ls (Err (Place i)) = (call-in k xs ≡ stop (drop i xs)) × (i ≤ length xs)
 Parses k xs ls (Err Memory) = Unit {0}
 
@@ -185,3 +186,20 @@ Parses k xs ls (Err Memory) = Unit {0}
 abbrev pub Lacks : Fault → Type 0
 Lacks (Place i) = ⊥
 Lacks Memory = Unit {0}
+
+-- and for the bytes bs of a call, or the fault that there is instead
+abbrev pub Makes : Step Call → List ℕ → Type 0
+Makes s bs = (c : Call) × (s ≡ got c []) × (bs ≡ call-bytes c)
+
+abbrev pub Fails : Step Call → List ℕ → Fault → Type 0
+Fails s xs (Place i) = (s ≡ stop (drop i xs)) × (i ≤ length xs)
+Fails s xs Memory = Unit {0}
+
+-- What is made of a line of which the reading is known: the bytes of the call, or the place where the line ceases to be one. Nothing is
+-- said of a line for which there is no memory.
+abbrev pub Bytes-of : Reading → List ℕ → Type 0
+Bytes-of r bs = (c : Call) × (r ≡ call-is c) × (bs ≡ call-bytes c)
+
+abbrev pub Refused-at : Reading → Fault → Type 0
+Refused-at r (Place i) = r ≡ ceases i
+Refused-at r Memory = Unit {0}

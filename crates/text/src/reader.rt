@@ -9,7 +9,7 @@ ghost use Rattle.model.specs.Paper.{pick};
 ghost use Rattle.codec.specs.Bytes.{word-bytes, words-bytes};
 ghost use Prim.Native.Nat.{ℕ, _+_, _-_, _*_, _<_, _≤_};
 ghost use lib.ListN.{length, getD, drop, take};
-ghost use Rattle.text.specs.Lines.{literal-in, digits-in, number-in, field-in, numbers-in, head-in, mark-of, letters-in, quoted-in, tail-in, shape-of, Reads, Passes, ReadsFirst, Spells, Parses, Lacks};
+ghost use Rattle.text.specs.Lines.{literal-in, digits-in, number-in, field-in, numbers-in, head-in, mark-of, letters-in, quoted-in, tail-in, shape-of, Reads, Passes, ReadsFirst, Spells, Parses, Lacks, call-in, line-reading, Makes, Fails, Bytes-of, Refused-at};
 
 use std::alloc::AllocError;
 use std::alloc::Global;
@@ -232,4 +232,34 @@ fn write_call(heap: Global, k: u8, numbers: &[u32], lettered: bool, text: &[u8])
         out.extend_from_slice(text)?;
     }
     Ok(out)
+}
+
+// The bytes of a line that is read as call number `k`.
+fn read_as(heap: Global, line: &[u8], k: u8) -> Result<Vec<u8>, Fault>
+    requires { ⌜ k < 12 ⌝ }
+    ensures { λ r. ⌜ Cases r (λ v. Makes (call-in k (now (line .entry))) (vec-items v)) (Fails (call-in k (now (line .entry))) (now (line .entry))) ⌝ }
+{
+    let mut text = Vec::new(heap);
+    let numbers = parse(line, k, &mut text)?;
+    let form = form_of(k);
+    let count = form.count;
+    write_call(heap, k, &numbers[0..count], form.lettered, text.as_slice())
+}
+
+// The bytes of the call that a line is. A line that is no call is refused at the first byte that does not fit: the furthest place that is
+// reached by reading it as any of the calls.
+pub fn read_line(heap: Global, line: &[u8]) -> Result<Vec<u8>, Fault>
+    ensures { λ r. ⌜ Cases r (λ v. Bytes-of (line-reading (now (line .entry))) (vec-items v)) (Refused-at (line-reading (now (line .entry)))) ⌝ }
+{
+    let mut far: usize = 0;
+    for k in 0..12 {
+        match read_as(heap, line, k) {
+            Ok(v) => return Ok(v),
+            Err(fault) => match fault {
+                Fault::Place(i) => far = far.max(i),
+                Fault::Memory => return Err(Fault::Memory),
+            },
+        }
+    }
+    Err(Fault::Place(far))
 }

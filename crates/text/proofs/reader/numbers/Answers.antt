@@ -29,4 +29,4 @@ pub returns : need.returns
 returns c =
     let e : c .loop-j .j ≡ c .args .count = omega arith in
     (sym (c .loop-j .inv .0) ∙ (numbers-done (c .args .count) (c .loop-j .j) (take (c .loop-j .j) (c .loop-j .all)) (drop (c .loop-j .at) (c .args .line .now)) (c .loop-j-test .left)
-    ∙ ap (λ i. got (take i (c .loop-j .all)) (drop (c .loop-j .at) (c .args .line .now))) e), c .loop-j .inv .1)
+    ∙ ap (λ i. got (take i (c .loop-j .all)) (drop (c .loop-j .at) (c .args .line .now))) e), c .loop-j .inv .1, c .loop-j .inv .2)

@@ -14,6 +14,7 @@ returns-then-end-line c =
 pub returns : need.returns
 returns c =
     let form = c .form-of-form .ensures in
-    parse-whole (c .args .k) (c .args .line .now) (c .form-of-form .result .word .now) (c .form-of-form .result .count) (c .form-of-form .result .lettered)
+    (parse-whole (c .args .k) (c .args .line .now) (c .form-of-form .result .word .now) (c .form-of-form .result .count) (c .form-of-form .result .lettered)
         (form .0) (form .1) (form .2) (c .in-Continue-numbers .numbers) (vec-items (c .tail .last .text)) (c .in-Continue-numbers .at) (c .in-Continue-end .end)
-        (c .in-Continue-numbers .ensures tt .0) (c .in-Continue-end .ensures tt .0) (c .if-end-line .left)
+        (c .in-Continue-numbers .ensures tt .0) (c .in-Continue-end .ensures tt .0) (c .if-end-line .left),
+    c .in-Continue-numbers .ensures tt .2)
