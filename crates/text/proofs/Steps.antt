@@ -106,7 +106,7 @@ after-mark ls from rest Backslash = letters-in true ls rest
 after-mark ls from rest Quote = got ls rest
 after-mark ls from rest Wrong = stop from
 
-letters-cons : (e : Bool) (ls : List ℕ) (x : ℕ) (xs : List ℕ) (m : Mark) → mark-of e x ≡ m → letters-in e ls (x ∷ xs) ≡ after-mark ls (x ∷ xs) xs m
+pub letters-cons : (e : Bool) (ls : List ℕ) (x : ℕ) (xs : List ℕ) (m : Mark) → mark-of e x ≡ m → letters-in e ls (x ∷ xs) ≡ after-mark ls (x ∷ xs) xs m
 unfolding letters-in
 letters-cons e ls x xs m h = ap (after-mark ls (x ∷ xs) xs) h
 

@@ -4,12 +4,13 @@ use mathlib.Core.Bool.{Bool, true, false}
 use mathlib.Core.List.{List, [], _∷_, _++_}
 use Prim.Native.Nat.{ℕ, max, zero, suc, _+_, _*_, _-_, _/_, _%_, _^_, _≤_, _<_}
 use native.Mathlib.Omega.{arith}
+use lib.Chars.{codes}
 use lib.ListN.{length, getD, take, drop, length-drop}
 use Rattle.std.proofs.shelf.Lists.{drop-more, drop-all, take-more, take-all, length-take-le, append-assoc, append-nil}
 use Rattle.model.specs.Paper.{pick}
 use Rattle.model.specs.Calls.{Call}
 use Rattle.codec.specs.Bytes.{word-bytes, words-bytes, call-bytes}
-use Rattle.text.specs.Lines.{Step, got, stop, and-then, head-in, tail-in, ended, Shape, shape-of, call-of, call-in, Reading, call-is, ceases, reading-from, Lacks, Fails}
+use Rattle.text.specs.Lines.{Step, got, stop, and-then, head-in, tail-in, ended, Shape, shape-of, call-of, call-in, Reading, means, ceases, reading-from, limits-in, limits-reading, Lacks, Fails}
 use Rattle.text.specs.declared.fault.Fault.{Fault}
 use Rattle.text.specs.declared.fault.Fault.the-variants.{Place, Memory}
 
@@ -121,8 +122,8 @@ fails-from-lacks s xs (Place i) l = absurd l
 fails-from-lacks s xs Memory l = tt
 
 -- the calls from number k on: one more of them is tried
-abbrev tried : ℕ → ℕ → ℕ → List ℕ → Step Call → Reading
-tried n k far xs (got c rest) = call-is c
+abbrev pub tried : ℕ → ℕ → ℕ → List ℕ → Step Call → Reading Call
+tried n k far xs (got c rest) = means c
 tried n k far xs (stop rest) = reading-from n (k + 1) (max far (length xs - length rest)) xs
 
 reading-next : (k far : ℕ) (xs : List ℕ) (s : Step Call) → k < 12 → call-in k xs ≡ s → reading-from (12 - k) k far xs ≡ tried (12 - (k + 1)) k far xs s
@@ -131,7 +132,7 @@ reading-next k far xs s h e =
     let one : 12 - k ≡ suc (12 - (k + 1)) = omega arith in
     ap (λ n. reading-from n k far xs) one ∙ ap (tried (12 - (k + 1)) k far xs) e
 
-pub reading-got : (k far : ℕ) (xs : List ℕ) (c : Call) → k < 12 → call-in k xs ≡ got c [] → reading-from (12 - k) k far xs ≡ call-is c
+pub reading-got : (k far : ℕ) (xs : List ℕ) (c : Call) → k < 12 → call-in k xs ≡ got c [] → reading-from (12 - k) k far xs ≡ means c
 reading-got k far xs c h e = reading-next k far xs (got c []) h e
 
 pub reading-stop : (k far : ℕ) (xs : List ℕ) (i : ℕ) → k < 12 → i ≤ length xs → call-in k xs ≡ stop (drop i xs) → reading-from (12 - k) k far xs ≡ reading-from (12 - (k + 1)) (k + 1) (max far i) xs
@@ -142,3 +143,31 @@ reading-stop k far xs i h le e =
 pub reading-none : (k far : ℕ) (xs : List ℕ) → 12 ≤ k → reading-from (12 - k) k far xs ≡ ceases far
 unfolding reading-from
 reading-none k far xs h = let z : 12 - k ≡ 0 = omega arith in ap (λ n. reading-from n k far xs) z
+
+-- the line of the limits, by how its head is read
+abbrev pub placed : List ℕ → Step (List ℕ) → Reading (List ℕ)
+placed xs (got ns rest) = means ns
+placed xs (stop rest) = ceases (length xs - length rest)
+
+module _ (xs : List ℕ) (i : ℕ) where
+  limits-next : (s : Step (List ℕ)) → head-in (codes "limits") 3 xs ≡ s → limits-reading xs ≡ placed xs (and-then s (λ ns ys. ended ns ys))
+  unfolding limits-reading
+  limits-next s e = ap (λ h. placed xs (and-then h (λ ns ys. ended ns ys))) e
+
+  place-of : i ≤ length xs → _≡_ {A = Reading (List ℕ)} (ceases (length xs - length (drop i xs))) (ceases i)
+  place-of le = let at : length xs - length (drop i xs) ≡ i = simp length-drop (omega arith) in ap (λ j. ceases j) at
+
+  pub limits-stop : i ≤ length xs → head-in (codes "limits") 3 xs ≡ stop (drop i xs) → limits-reading xs ≡ ceases i
+  limits-stop le e = limits-next (stop (drop i xs)) e ∙ place-of le
+
+  pub limits-over : (ns : List ℕ) → i < length xs → head-in (codes "limits") 3 xs ≡ got ns (drop i xs) → limits-reading xs ≡ ceases i
+  limits-over ns h e =
+      let d = drop-more xs i 0 h in
+      let le : i ≤ length xs = omega arith in
+      limits-next (got ns (drop i xs)) e
+      ∙ (ap (λ ys. placed xs (ended ns ys)) d ∙ (ap (λ ys. ceases (length xs - length ys)) (sym d) ∙ place-of le))
+
+  pub limits-whole : (ns : List ℕ) → length xs ≤ i → length ns ≡ 4 → head-in (codes "limits") 3 xs ≡ got (take 3 ns) (drop i xs) → limits-reading xs ≡ means (getD ns 0 0 ∷ (getD ns 1 0 ∷ (getD ns 2 0 ∷ [])))
+  limits-whole ns h four e =
+      limits-next (got (take 3 ns) (drop i xs)) e
+      ∙ (ap (λ ys. placed xs (ended (take 3 ns) ys)) (drop-all i xs h) ∙ ap (λ ms. means (take 3 ms)) (spread 4 ns four))

@@ -140,19 +140,86 @@ call-in k xs =
     and-then (head-in (shape-of k .word) (shape-of k .count) xs)
     (λ ns ys. and-then (tail-in (shape-of k .lettered) ys) (λ ls zs. ended (call-of k ns ls) zs))
 
--- What a line is: a call, or nothing that can be read, and then the place of the first byte that does not fit.
-pub data Reading : Type 0 where
-  call-is : Call → Reading
-  ceases : ℕ → Reading
+-- What a line means, or the place of the first byte that does not fit.
+pub data Reading (A : Type 0) : Type 0 where
+  means : A → Reading A
+  ceases : ℕ → Reading A
 
 -- The line xs is tried as each of the n calls from number k on; far is the furthest place at which one of those before ceased.
-unfoldable pub reading-from : ℕ → ℕ → ℕ → List ℕ → Reading
+unfoldable pub reading-from : ℕ → ℕ → ℕ → List ℕ → Reading Call
 reading-from zero k far xs = ceases far
 reading-from (suc n) k far xs =
-    elim (call-in k xs) [ got c rest ↦ call-is c | stop rest ↦ reading-from n (k + 1) (max far (length xs - length rest)) xs ]
+    elim (call-in k xs) [ got c rest ↦ means c | stop rest ↦ reading-from n (k + 1) (max far (length xs - length rest)) xs ]
 
-abbrev pub line-reading : List ℕ → Reading
+abbrev pub line-reading : List ℕ → Reading Call
 line-reading xs = reading-from 12 0 0 xs
+
+-- The first line of a file: how many cells and changes a paper may have, and how much can be undone.
+abbrev pub limits-in : List ℕ → Step (List ℕ)
+limits-in xs = and-then (head-in (codes "limits") 3 xs) (λ ns ys. ended ns ys)
+
+unfoldable pub limits-reading : List ℕ → Reading (List ℕ)
+limits-reading xs = elim (limits-in xs) [ got ns rest ↦ means ns | stop rest ↦ ceases (length xs - length rest) ]
+
+-- The line of a call. Numbers are decimal, each after a space.
+unfoldable pub numbers-line : List ℕ → List ℕ
+numbers-line [] = []
+numbers-line (n ∷ ns) = 32 ∷ (decimal n ++ numbers-line ns)
+
+abbrev pub letter-line : ℕ → List ℕ
+letter-line l = pick (eqb l 10) (codes "\\n") (pick (eqb l 34) (codes "\\\"") (pick (eqb l 92) (codes "\\\\") (l ∷ [])))
+
+-- letters and the closing quote
+unfoldable pub letters-line : List ℕ → List ℕ
+letters-line [] = codes "\""
+letters-line (l ∷ ls) = letter-line l ++ letters-line ls
+
+abbrev pub quoted-line : List ℕ → List ℕ
+quoted-line ls = codes " \"" ++ letters-line ls
+
+unfoldable pub line-of : Call → List ℕ
+line-of (put a i s ls) = codes "put" ++ (numbers-line (a ∷ (i ∷ (s ∷ []))) ++ quoted-line ls)
+line-of (strikes a i n) = codes "strike" ++ numbers-line (a ∷ (i ∷ (n ∷ [])))
+line-of (accepts c) = codes "accept" ++ numbers-line (c ∷ [])
+line-of (rejects c) = codes "reject" ++ numbers-line (c ∷ [])
+line-of (styles i n s) = codes "style" ++ numbers-line (i ∷ (n ∷ (s ∷ [])))
+line-of undo = codes "undo"
+line-of redo = codes "redo"
+line-of (show k w r n) = codes "show" ++ numbers-line (k ∷ (w ∷ (r ∷ (n ∷ []))))
+line-of (find k i ls) = codes "find" ++ (numbers-line (k ∷ (i ∷ [])) ++ quoted-line ls)
+line-of (count k) = codes "count" ++ numbers-line (k ∷ [])
+line-of (change c) = codes "change" ++ numbers-line (c ∷ [])
+line-of (save i n) = codes "save" ++ numbers-line (i ∷ (n ∷ []))
+
+abbrev pub limits-line : ℕ → ℕ → ℕ → List ℕ
+limits-line cells changes undos = codes "limits" ++ numbers-line (cells ∷ (changes ∷ (undos ∷ [])))
+
+-- the numbers fit four bytes
+unfoldable pub small : List ℕ → Bool
+small [] = true
+small (n ∷ ns) = ltb n 4294967296 && small ns
+
+-- a call that a line can say: any letters, and numbers that fit four bytes
+unfoldable pub readable : Call → Bool
+readable (put a i s ls) = small (a ∷ (i ∷ (s ∷ [])))
+readable (strikes a i n) = small (a ∷ (i ∷ (n ∷ [])))
+readable (accepts c) = small (c ∷ [])
+readable (rejects c) = small (c ∷ [])
+readable (styles i n s) = small (i ∷ (n ∷ (s ∷ [])))
+readable undo = true
+readable redo = true
+readable (show k w r n) = small (k ∷ (w ∷ (r ∷ (n ∷ []))))
+readable (find k i ls) = small (k ∷ (i ∷ []))
+readable (count k) = small (k ∷ [])
+readable (change c) = small (c ∷ [])
+readable (save i n) = small (i ∷ (n ∷ []))
+
+-- the line of a call reads as that call
+abbrev pub Reads-back : Type 0
+Reads-back = (c : Call) → readable c ≡ true → line-reading (line-of c) ≡ means c
+
+abbrev pub Limits-back : Type 0
+Limits-back = (cells changes undos : ℕ) → cells < 4294967296 → changes < 4294967296 → undos < 4294967296 → limits-reading (limits-line cells changes undos) ≡ means (cells ∷ (changes ∷ (undos ∷ [])))
 
 -- The code holds a place in the line xs, where the definitions hold what is left. What it answers for a part of the line: the value and
 -- the place after it, or the place of the first byte that does not fit.
@@ -197,9 +264,14 @@ Fails s xs Memory = Unit {0}
 
 -- What is made of a line of which the reading is known: the bytes of the call, or the place where the line ceases to be one. Nothing is
 -- said of a line for which there is no memory.
-abbrev pub Bytes-of : Reading → List ℕ → Type 0
-Bytes-of r bs = (c : Call) × (r ≡ call-is c) × (bs ≡ call-bytes c)
+abbrev pub Bytes-of : Reading Call → List ℕ → Type 0
+Bytes-of r bs = (c : Call) × (r ≡ means c) × (bs ≡ call-bytes c)
 
-abbrev pub Refused-at : Reading → Fault → Type 0
+abbrev pub Refused-at : Reading Call → Fault → Type 0
 Refused-at r (Place i) = r ≡ ceases i
 Refused-at r Memory = Unit {0}
+
+-- and for the three limits
+abbrev pub Limits-read : Reading (List ℕ) → Result (ℕ × ℕ × ℕ) ℕ → Type 0
+Limits-read r (Ok p) = r ≡ means (p .0 ∷ (p .1 ∷ (p .2 ∷ [])))
+Limits-read r (Err i) = r ≡ ceases i

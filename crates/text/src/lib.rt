@@ -1,3 +1,10 @@
 // Calls and answers as lines of text.
 mod fault;
+mod laws;
 mod reader;
+
+pub use fault::Fault;
+pub use laws::limits_back;
+pub use laws::reads_back;
+pub use reader::read_limits;
+pub use reader::read_line;

@@ -9,7 +9,7 @@ ghost use Rattle.model.specs.Paper.{pick};
 ghost use Rattle.codec.specs.Bytes.{word-bytes, words-bytes};
 ghost use Prim.Native.Nat.{ℕ, _+_, _-_, _*_, _<_, _≤_};
 ghost use lib.ListN.{length, getD, drop, take};
-ghost use Rattle.text.specs.Lines.{literal-in, digits-in, number-in, field-in, numbers-in, head-in, mark-of, letters-in, quoted-in, tail-in, shape-of, Reads, Passes, ReadsFirst, Spells, Parses, Lacks, call-in, line-reading, Makes, Fails, Bytes-of, Refused-at};
+ghost use Rattle.text.specs.Lines.{literal-in, digits-in, number-in, field-in, numbers-in, head-in, mark-of, letters-in, quoted-in, tail-in, shape-of, Reads, Passes, ReadsFirst, Spells, Parses, Lacks, call-in, line-reading, Makes, Fails, Bytes-of, Refused-at, limits-reading, Limits-read};
 
 use std::alloc::AllocError;
 use std::alloc::Global;
@@ -262,4 +262,15 @@ pub fn read_line(heap: Global, line: &[u8]) -> Result<Vec<u8>, Fault>
         }
     }
     Err(Fault::Place(far))
+}
+
+// The limits of a file's first line: `limits CELLS CHANGES UNDOS`.
+pub fn read_limits(line: &[u8]) -> Result<(u32, u32, u32), usize>
+    ensures { λ r. ⌜ Limits-read (limits-reading (now (line .entry))) r ⌝ }
+{
+    let (numbers, at) = head(line, b"limits", 3)?;
+    if at < line.len() {
+        return Err(at);
+    }
+    Ok((numbers[0], numbers[1], numbers[2]))
 }
