@@ -2,6 +2,7 @@
 mod fault;
 mod laws;
 mod reader;
+mod writer;
 
 pub use fault::Fault;
 pub use laws::limits_back;
