@@ -66,11 +66,11 @@ unfolding number-in
 number-back n rest lt end =
     let small : n < 2 ^ 64 = omega arith in
     ⊎-elim
-      (λ pos. decimal-by-steps Reading-on first-on more-on n small pos lt rest ∙ digits-end n rest end)
-      (λ none.
-        let z : n ≡ 0 = omega arith in
-        ap (λ m. number-in (decimal m ++ rest)) z ∙ (ap (λ ds. number-in (ds ++ rest)) (decimal-digit 0 (omega arith)) ∙ ap (λ m. got m rest) (sym z)))
-      (cases-lt 0 n)
+    (λ pos. decimal-by-steps Reading-on first-on more-on n small pos lt rest ∙ digits-end n rest end)
+    (λ none.
+    let z : n ≡ 0 = omega arith in
+    ap (λ m. number-in (decimal m ++ rest)) z ∙ (ap (λ ds. number-in (ds ++ rest)) (decimal-digit 0 (omega arith)) ∙ ap (λ m. got m rest) (sym z)))
+    (cases-lt 0 n)
 
 numbers-ends : (ns rest : List ℕ) → Ends rest → Ends (numbers-line ns ++ rest)
 unfolding numbers-line
@@ -95,10 +95,10 @@ letter-back l acc rest =
     ⊎-elim (λ e. ap from e ∙ ap to (sym e))
     (λ n10. ⊎-elim (λ e. ap from e ∙ ap to (sym e))
     (λ n34. ⊎-elim (λ e. ap from e ∙ ap to (sym e))
-    (λ n92. 
-      let line : letter-line l ≡ l ∷ [] = rw (ne-eqb l 10 n10, ne-eqb l 34 n34, ne-eqb l 92 n92) in
-      let mark : mark-of false l ≡ Letter l = rw (ne-eqb l 34 n34, ne-eqb l 92 n92, ne-eqb l 10 n10) in
-      ap (λ ys. letters-in false acc (ys ++ rest)) line ∙ letters-cons false acc l rest (Letter l) mark)
+    (λ n92.
+    let line : letter-line l ≡ l ∷ [] = rw (ne-eqb l 10 n10, ne-eqb l 34 n34, ne-eqb l 92 n92) in
+    let mark : mark-of false l ≡ Letter l = rw (ne-eqb l 34 n34, ne-eqb l 92 n92, ne-eqb l 10 n10) in
+    ap (λ ys. letters-in false acc (ys ++ rest)) line ∙ letters-cons false acc l rest (Letter l) mark)
     (cases-eq l 92)) (cases-eq l 34)) (cases-eq l 10)
 
 letters-back : (ls acc rest : List ℕ) → letters-in false acc (letters-line ls ++ rest) ≡ got (acc ++ ls) rest

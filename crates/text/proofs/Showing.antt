@@ -10,8 +10,11 @@ use Rattle.std.specs.Written.{decimal}
 use Rattle.std.proofs.shelf.Decimals.{decimal-digit, decimal-step}
 use Rattle.std.proofs.shelf.Lists.{drop-drop, getD-drop, append-assoc}
 use Rattle.std.proofs.shelf.Tests.{lt-ltb, le-ltb}
-use Rattle.text.specs.Lines.{Step, got, stop, and-then}
-use Rattle.text.specs.Shown.{word-at, cell-line, number-shown, cell-shown}
+use Rattle.std.specs.declared.result.Result.the-variants.{Ok, Err}
+use Rattle.text.specs.declared.fault.Fault.{Fault}
+use Rattle.text.specs.declared.fault.Fault.the-variants.{Place, Memory}
+use Rattle.text.specs.Lines.{Step, got, stop, and-then, Spells}
+use Rattle.text.specs.Shown.{word-at, cell-line, number-shown, cell-shown, repeated, counted}
 
 word-drop : (xs : List ℕ) (i j : ℕ) → word-at (drop i xs) j ≡ word-at xs (i + j)
 word-drop xs i j =
@@ -80,3 +83,39 @@ digits-more line n h small = append-assoc line (decimal (n / 10)) ((48 + n % 10)
 -- a cell's three parts, as the code appends them
 pub cell-parts : (line mark escape : List ℕ) (l : ℕ) → ((line ++ mark) ++ escape) ++ (l ∷ []) ≡ line ++ (mark ++ (escape ++ (l ∷ [])))
 cell-parts line mark escape l = append-assoc (line ++ mark) escape (l ∷ []) ∙ append-assoc line mark (escape ++ (l ∷ []))
+
+-- a part whose first four bytes are its count
+module _ (f : List ℕ → List ℕ → Step (List ℕ)) where
+  pub counted-short : (line xs : List ℕ) (i : ℕ) → length xs - i < 4 → counted f line (drop i xs) ≡ stop (drop i xs)
+  unfolding counted
+  counted-short line xs i h =
+      let short : length (drop i xs) < 4 = simp length-drop (omega arith) in
+      rw (lt-ltb (length (drop i xs)) 4 short)
+
+  pub counted-whole : (line xs : List ℕ) (i n : ℕ) → 4 ≤ length xs - i → n ≡ word-at xs i → counted f line (drop i xs) ≡ repeated f n line (drop (i + 4) xs)
+  unfolding counted
+  counted-whole line xs i n h e =
+      let long : 4 ≤ length (drop i xs) = simp length-drop (omega arith) in
+      rw (le-ltb (length (drop i xs)) 4 long)
+      (ap (λ m. repeated f m line (drop 4 (drop i xs))) (first-word xs i ∙ sym e) ∙ ap (repeated f n line) (drop-drop 4 i xs))
+
+  repeated-next : (n : ℕ) (line xs : List ℕ) (s : Step (List ℕ)) → 0 < n → f line xs ≡ s → repeated f n line xs ≡ and-then s (repeated f (n - 1))
+  unfolding repeated
+  repeated-next n line xs s h e =
+      let one : n ≡ suc (n - 1) = omega arith in
+      ap (λ m. repeated f m line xs) one ∙ ap (λ r. and-then r (repeated f (n - 1))) e
+
+  pub repeated-more : (n : ℕ) (line xs l ys : List ℕ) → 0 < n → f line xs ≡ got l ys → repeated f n line xs ≡ repeated f (n - 1) l ys
+  repeated-more n line xs l ys h e = repeated-next n line xs (got l ys) h e
+
+  pub repeated-stop : (n : ℕ) (line xs ys : List ℕ) → 0 < n → f line xs ≡ stop ys → repeated f n line xs ≡ stop ys
+  repeated-stop n line xs ys h e = repeated-next n line xs (stop ys) h e
+
+  pub repeated-done : (n : ℕ) (line xs : List ℕ) → n ≤ 0 → repeated f n line xs ≡ got line xs
+  unfolding repeated
+  repeated-done n line xs h = let z : n ≡ 0 = omega arith in ap (λ m. repeated f m line xs) z
+
+  -- one of n more does not fit, where s is what they all come to
+  pub repeated-break : (s : Step (List ℕ)) (n : ℕ) (line xs : List ℕ) (i : ℕ) (ls : List ℕ) (e : Fault) → 0 < n → repeated f n line (drop i xs) ≡ s → Spells (f line (drop i xs)) xs ls (Err e) → Spells s xs ls (Err e)
+  repeated-break s n line xs i ls (Place j) h e p = (sym e ∙ repeated-stop n line (drop i xs) (drop j xs) h (p .0), p .1)
+  repeated-break s n line xs i ls Memory h e p = tt

@@ -42,8 +42,8 @@ unfoldable pub digits-in : ℕ → List ℕ → Step ℕ
 digits-in n [] = got n []
 digits-in n (x ∷ xs) =
     pick (digit x)
-        (pick (ltb (n * 10 + (x - 48)) 4294967296) (digits-in (n * 10 + (x - 48)) xs) (stop (x ∷ xs)))
-        (got n (x ∷ xs))
+    (pick (ltb (n * 10 + (x - 48)) 4294967296) (digits-in (n * 10 + (x - 48)) xs) (stop (x ∷ xs)))
+    (got n (x ∷ xs))
 
 -- a number: 0, or digits that do not begin with 0
 unfoldable pub number-in : List ℕ → Step ℕ
@@ -74,10 +74,10 @@ unfoldable pub letters-in : Bool → List ℕ → List ℕ → Step (List ℕ)
 letters-in escaped ls [] = stop []
 letters-in escaped ls (x ∷ xs) =
     elim (mark-of escaped x) [
-      Letter l ↦ letters-in false (ls ++ (l ∷ [])) xs
-    | Backslash ↦ letters-in true ls xs
-    | Quote ↦ got ls xs
-    | Wrong ↦ stop (x ∷ xs)
+      | Letter l ↦ letters-in false (ls ++ (l ∷ [])) xs
+      | Backslash ↦ letters-in true ls xs
+      | Quote ↦ got ls xs
+      | Wrong ↦ stop (x ∷ xs)
     ]
 
 -- letters between quotes, after a space
@@ -258,7 +258,7 @@ Lacks Memory = Unit {0}
 abbrev pub Makes : Step Call → List ℕ → Type 0
 Makes s bs = (c : Call) × (s ≡ got c []) × (bs ≡ call-bytes c)
 
-abbrev pub Fails : Step Call → List ℕ → Fault → Type 0
+abbrev pub Fails : {A : Type 0} → Step A → List ℕ → Fault → Type 0
 Fails s xs (Place i) = (s ≡ stop (drop i xs)) × (i ≤ length xs)
 Fails s xs Memory = Unit {0}
 

@@ -75,8 +75,36 @@ repeated f zero line xs = got line xs
 repeated f (suc n) line xs = and-then (f line xs) (repeated f n)
 
 -- a count, and so many of a kind
-abbrev pub counted : (List ℕ → List ℕ → Step (List ℕ)) → List ℕ → List ℕ → Step (List ℕ)
+unfoldable pub counted : (List ℕ → List ℕ → Step (List ℕ)) → List ℕ → List ℕ → Step (List ℕ)
 counted f line xs = pick (ltb (length xs) 4) (stop xs) (repeated f (word-at xs 0) line (drop 4 xs))
 
 abbrev pub row-shown : List ℕ → List ℕ → Step (List ℕ)
 row-shown line xs = and-then (counted cell-shown line xs) (λ l ys. got (l ++ codes "|") ys)
+
+-- a refusal and its place; two numbers; rows; a row of numbers
+abbrev pub refusal-shown : List ℕ → List ℕ → Step (List ℕ)
+refusal-shown line xs = and-then (spaced-shown (line ++ codes "refused") xs) (λ l ys. spaced-shown (l ++ codes " at") ys)
+
+abbrev pub pair-shown : List ℕ → List ℕ → Step (List ℕ)
+pair-shown line xs = and-then (number-shown line xs) spaced-shown
+
+abbrev pub table-shown : List ℕ → List ℕ → Step (List ℕ)
+table-shown line xs = counted row-shown (line ++ codes "rows |") xs
+
+abbrev pub numbers-shown : List ℕ → List ℕ → Step (List ℕ)
+numbers-shown line xs = counted spaced-shown (line ++ codes "numbers") xs
+
+-- by the first byte
+abbrev pub form-shown : List ℕ → List ℕ → Step (List ℕ)
+form-shown line xs =
+    pick (eqb (length xs) 0) (stop xs)
+    (pick (eqb (getD xs 0 0) 0) (refusal-shown line (drop 1 xs))
+    (pick (eqb (getD xs 0 0) 1) (number-shown line (drop 1 xs))
+    (pick (eqb (getD xs 0 0) 2) (pair-shown line (drop 1 xs))
+    (pick (eqb (getD xs 0 0) 3) (table-shown line (drop 1 xs))
+    (pick (eqb (getD xs 0 0) 4) (numbers-shown line (drop 1 xs))
+    (stop xs))))))
+
+-- the line of a whole answer, or what is left from the first part on that does not fit
+abbrev pub answer-shown : List ℕ → Step (List ℕ)
+answer-shown bs = and-then (form-shown [] bs) ended

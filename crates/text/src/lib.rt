@@ -9,3 +9,4 @@ pub use laws::limits_back;
 pub use laws::reads_back;
 pub use reader::read_limits;
 pub use reader::read_line;
+pub use writer::write_answer;

@@ -10,13 +10,12 @@ ghost use Rattle.codec.specs.Bytes.{word-bytes, words-bytes};
 ghost use Prim.Native.Nat.{ℕ, _+_, _-_, _*_, _<_, _≤_};
 ghost use lib.ListN.{length, getD, drop, take};
 ghost use Rattle.text.specs.Lines.{literal-in, digits-in, number-in, field-in, numbers-in, head-in, mark-of, letters-in, quoted-in, tail-in, shape-of, Reads, Passes, ReadsFirst, Spells, Parses, Lacks, call-in, line-reading, Makes, Fails, Bytes-of, Refused-at, limits-reading, Limits-read};
-
-use std::alloc::AllocError;
-use std::alloc::Global;
 use crate::fault::Fault;
 use crate::fault::FaultFromAlloc;
 use crate::fault::FaultFromPlace;
 use crate::fault::FaultFromRefused;
+use std::alloc::AllocError;
+use std::alloc::Global;
 
 // What a byte between quotes is.
 enum Mark {
@@ -39,18 +38,66 @@ fn form_of(k: u8) -> Form
     ensures { λ r. ⌜ (now (r .word) ≡ shape-of k .word) × (r .count ≡ shape-of k .count) × (r .lettered ≡ shape-of k .lettered) × (r .count ≤ 4) ⌝ }
 {
     match k {
-        0 => Form { word: b"put", count: 3, lettered: true },
-        1 => Form { word: b"strike", count: 3, lettered: false },
-        2 => Form { word: b"accept", count: 1, lettered: false },
-        3 => Form { word: b"reject", count: 1, lettered: false },
-        4 => Form { word: b"style", count: 3, lettered: false },
-        5 => Form { word: b"undo", count: 0, lettered: false },
-        6 => Form { word: b"redo", count: 0, lettered: false },
-        7 => Form { word: b"show", count: 4, lettered: false },
-        8 => Form { word: b"find", count: 2, lettered: true },
-        9 => Form { word: b"count", count: 1, lettered: false },
-        10 => Form { word: b"change", count: 1, lettered: false },
-        _ => Form { word: b"save", count: 2, lettered: false },
+        0 => Form {
+            word: b"put",
+            count: 3,
+            lettered: true,
+        },
+        1 => Form {
+            word: b"strike",
+            count: 3,
+            lettered: false,
+        },
+        2 => Form {
+            word: b"accept",
+            count: 1,
+            lettered: false,
+        },
+        3 => Form {
+            word: b"reject",
+            count: 1,
+            lettered: false,
+        },
+        4 => Form {
+            word: b"style",
+            count: 3,
+            lettered: false,
+        },
+        5 => Form {
+            word: b"undo",
+            count: 0,
+            lettered: false,
+        },
+        6 => Form {
+            word: b"redo",
+            count: 0,
+            lettered: false,
+        },
+        7 => Form {
+            word: b"show",
+            count: 4,
+            lettered: false,
+        },
+        8 => Form {
+            word: b"find",
+            count: 2,
+            lettered: true,
+        },
+        9 => Form {
+            word: b"count",
+            count: 1,
+            lettered: false,
+        },
+        10 => Form {
+            word: b"change",
+            count: 1,
+            lettered: false,
+        },
+        _ => Form {
+            word: b"save",
+            count: 2,
+            lettered: false,
+        },
     }
 }
 
@@ -192,7 +239,11 @@ fn tail(line: &[u8], at: usize, lettered: bool, text: &mut Vec<u8>) -> Result<us
     requires { ⌜ at ≤ length (now line) ⌝ ∗ ⌜ vec-items (now text) ≡ [] ⌝ }
     ensures { λ r. ⌜ Spells (tail-in lettered (drop at (now (line .entry)))) (now (line .entry)) (vec-items (now (text .exit))) r ⌝ }
 {
-    if lettered { quoted(line, at, text) } else { Ok(at) }
+    if lettered {
+        quoted(line, at, text)
+    } else {
+        Ok(at)
+    }
 }
 
 // A whole line as call number `k`: its numbers, the first of the array, and its letters, in `text`.
@@ -216,7 +267,13 @@ fn push_word(out: &mut Vec<u8>, n: u32) -> Result<(), AllocError>
 }
 
 // The bytes of call number `k`.
-fn write_call(heap: Global, k: u8, numbers: &[u32], lettered: bool, text: &[u8]) -> Result<Vec<u8>, Fault>
+fn write_call(
+    heap: Global,
+    k: u8,
+    numbers: &[u32],
+    lettered: bool,
+    text: &[u8],
+) -> Result<Vec<u8>, Fault>
     ensures { λ r. ⌜ Cases r (λ v. vec-items v ≡ k ∷ (words-bytes (now (numbers .entry)) ++ pick lettered (word-bytes (length (now (text .entry))) ++ now (text .entry)) [])) Lacks ⌝ }
 {
     let mut out = Vec::new(heap);

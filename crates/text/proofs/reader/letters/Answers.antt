@@ -21,13 +21,13 @@ returns-in-Wrong c =
 pub loop-i-again : need.loop-i-again
 loop-i-again c =
     elim (c .match-meaning .came) [
-      in-Letter·in-Continue-push w ↦
-        let step = letters-next (c .loop-i .escaped) (vec-items (c .loop-i .text)) (c .args .line .now) (c .loop-i .i) (Letter (w .in-Letter .x)) (c .loop-i-test .taken) (w .in-Letter .ensures tt) in
-        let items = pushed (w .in-Letter .x ∷ []) refl (w .in-Continue-push .was tt) (w .push .ensures .items) in
-        cc (step, items, w .text-is, w .escaped-is, c .loop-i .inv)
-    | in-Backslash w ↦
-        let step = letters-next (c .loop-i .escaped) (vec-items (c .loop-i .text)) (c .args .line .now) (c .loop-i .i) Backslash (c .loop-i-test .taken) (w .in-Backslash .ensures tt) in
-        cc (step, w .text-is, w .escaped-is, c .loop-i .inv)
+      | in-Letter·in-Continue-push w ↦
+          let step = letters-next (c .loop-i .escaped) (vec-items (c .loop-i .text)) (c .args .line .now) (c .loop-i .i) (Letter (w .in-Letter .x)) (c .loop-i-test .taken) (w .in-Letter .ensures tt) in
+          let items = pushed (w .in-Letter .x ∷ []) refl (w .in-Continue-push .was tt) (w .push .ensures .items) in
+          cc (step, items, w .text-is, w .escaped-is, c .loop-i .inv)
+      | in-Backslash w ↦
+          let step = letters-next (c .loop-i .escaped) (vec-items (c .loop-i .text)) (c .args .line .now) (c .loop-i .i) Backslash (c .loop-i-test .taken) (w .in-Backslash .ensures tt) in
+          cc (step, w .text-is, w .escaped-is, c .loop-i .inv)
     ]
 
 pub returns : need.returns

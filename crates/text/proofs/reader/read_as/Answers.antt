@@ -20,6 +20,9 @@ returns c =
     let fit : n ≤ length ns = omega (arith, c .in-Continue-numbers .ensures tt .1) in
     let bytes = λ (zs : List ℕ). c .args .k ∷ (words-bytes (take (n - 0) ns) ++ pick (c .form-of-form .result .lettered) (word-bytes (length zs) ++ zs) []) in
     cases-weaker (c .write-call .result) (c .write-call .ensures)
-    (λ v e. (call-of (c .args .k) (take (shape-of (c .args .k) .count) ns) ls, c .in-Continue-numbers .ensures tt .0,
-      made (c .args .k) ns ls n (c .form-of-form .result .lettered) (vec-items v) (c .pre) (form .1) (form .2) fit (e ∙ ap bytes (c .as-slice .ensures .value))))
+    (λ v e. (
+      call-of (c .args .k) (take (shape-of (c .args .k) .count) ns) ls,
+      c .in-Continue-numbers .ensures tt .0,
+      made (c .args .k) ns ls n (c .form-of-form .result .lettered) (vec-items v) (c .pre) (form .1) (form .2) fit (e ∙ ap bytes (c .as-slice .ensures .value)),
+    ))
     (λ f l. fails-from-lacks (call-in (c .args .k) (c .args .line .now)) (c .args .line .now) f l)

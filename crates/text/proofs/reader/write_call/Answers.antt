@@ -22,14 +22,14 @@ pub returns : need.returns
 returns c =
     let all = c .loop-n .inv ∙ words-all (c .args .numbers .now) (c .loop-n .n-index) (c .args .k) (c .loop-n-test .left) in
     elim (c .if-lettered .came) [
-      then-lettered·in-Ok·in-Continue-push-word-2·in-Continue-extend-from-slice w ↦
-        ap vec-items (w .out-is)
-        ∙ (w .in-Continue-extend-from-slice .ensures tt .items
-        ∙ (ap (λ xs. xs ++ c .args .text .now) (w .in-Continue-push-word-2 .ensures tt)
-        ∙ (ap (λ xs. (xs ++ word-bytes (w .in-Ok .count)) ++ c .args .text .now) all
-        ∙ (ap (λ n. ((c .args .k ∷ words-bytes (c .args .numbers .now)) ++ word-bytes n) ++ c .args .text .now) (w .in-Ok .ensures tt .1)
-        ∙ joined-letters (c .args .k) (words-bytes (c .args .numbers .now)) (word-bytes (length (c .args .text .now))) (c .args .text .now) (c .args .lettered) (w .if-lettered .taken)))))
-    | else-lettered w ↦
-        ap vec-items (w .out-is)
-        ∙ (all ∙ joined-plain (c .args .k) (words-bytes (c .args .numbers .now)) (word-bytes (length (c .args .text .now)) ++ c .args .text .now) (c .args .lettered) (w .if-lettered .left))
+      | then-lettered·in-Ok·in-Continue-push-word-2·in-Continue-extend-from-slice w ↦
+          ap vec-items (w .out-is)
+          ∙ (w .in-Continue-extend-from-slice .ensures tt .items
+          ∙ (ap (λ xs. xs ++ c .args .text .now) (w .in-Continue-push-word-2 .ensures tt)
+          ∙ (ap (λ xs. (xs ++ word-bytes (w .in-Ok .count)) ++ c .args .text .now) all
+          ∙ (ap (λ n. ((c .args .k ∷ words-bytes (c .args .numbers .now)) ++ word-bytes n) ++ c .args .text .now) (w .in-Ok .ensures tt .1)
+          ∙ joined-letters (c .args .k) (words-bytes (c .args .numbers .now)) (word-bytes (length (c .args .text .now))) (c .args .text .now) (c .args .lettered) (w .if-lettered .taken)))))
+      | else-lettered w ↦
+          ap vec-items (w .out-is)
+          ∙ (all ∙ joined-plain (c .args .k) (words-bytes (c .args .numbers .now)) (word-bytes (length (c .args .text .now)) ++ c .args .text .now) (c .args .lettered) (w .if-lettered .left))
     ]

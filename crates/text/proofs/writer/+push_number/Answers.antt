@@ -14,6 +14,6 @@ returns t c =
     let small : c .args .n < 2 ^ 64 = omega arith in
     c .in-Continue-push .ensures tt .items
     ∙ elim (c .if-n-ge10 .came) [
-        then-n-ge10·in-Continue-push-number w ↦ ap (λ v. last (vec-items v)) (w .out-is) ∙ (ap last (w .in-Continue-push-number .ensures tt) ∙ digits-more line (c .args .n) (w .if-n-ge10 .taken) small)
+      | then-n-ge10·in-Continue-push-number w ↦ ap (λ v. last (vec-items v)) (w .out-is) ∙ (ap last (w .in-Continue-push-number .ensures tt) ∙ digits-more line (c .args .n) (w .if-n-ge10 .taken) small)
       | else-n-ge10 w ↦ ap (λ v. last (vec-items v)) (w .out-is) ∙ digits-one line (c .args .n) (w .if-n-ge10 .left)
-      ]
+    ]

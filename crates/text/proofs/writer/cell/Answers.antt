@@ -15,8 +15,9 @@ returns-then-letter-gt255 c =
     (cell-wrong (vec-items (c .args .out .now)) (c .args .bytes .now) (c .args .at) (c .if-bytes-at-lt16 .left) (c .word-letter .result) (c .word-letter .ensures) (c .if-letter-gt255 .taken), c .pre)
 
 pub returns : need.returns
-returns c =
-    (cell-whole (vec-items (c .args .out .now)) (c .args .bytes .now) (c .args .at) (c .if-bytes-at-lt16 .left) (c .word-letter .result) (c .word-letter .ensures)
-        (c .word .result) (c .word-2 .result) (c .word .ensures) (c .word-2 .ensures) (c .if-letter-gt255 .left)
-    ∙ ap (λ ls. got ls (drop (c .args .at + 16) (c .args .bytes .now))) (sym (c .in-Continue-push-cell .ensures tt)),
-    omega arith)
+returns c = (
+  cell-whole (vec-items (c .args .out .now)) (c .args .bytes .now) (c .args .at) (c .if-bytes-at-lt16 .left) (c .word-letter .result) (c .word-letter .ensures)
+      (c .word .result) (c .word-2 .result) (c .word .ensures) (c .word-2 .ensures) (c .if-letter-gt255 .left)
+      ∙ ap (λ ls. got ls (drop (c .args .at + 16) (c .args .bytes .now))) (sym (c .in-Continue-push-cell .ensures tt)),
+  omega arith,
+)

@@ -11,7 +11,8 @@ pub returns-then-bytes-at-lt4 : need.returns-then-bytes-at-lt4
 returns-then-bytes-at-lt4 c = (number-short (vec-items (c .args .out .now)) (c .args .bytes .now) (c .args .at) (c .if-bytes-at-lt4 .taken), c .pre)
 
 pub returns : need.returns
-returns c =
-    (number-whole (vec-items (c .args .out .now)) (c .args .bytes .now) (c .args .at) (c .word .result) (c .if-bytes-at-lt4 .left) (c .word .ensures)
-    ∙ ap (λ ls. got ls (drop (c .args .at + 4) (c .args .bytes .now))) (sym (c .in-Continue-push-number .ensures tt)),
-    omega arith)
+returns c = (
+  number-whole (vec-items (c .args .out .now)) (c .args .bytes .now) (c .args .at) (c .word .result) (c .if-bytes-at-lt4 .left) (c .word .ensures)
+      ∙ ap (λ ls. got ls (drop (c .args .at + 4) (c .args .bytes .now))) (sym (c .in-Continue-push-number .ensures tt)),
+  omega arith,
+)
