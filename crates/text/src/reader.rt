@@ -25,79 +25,23 @@ enum Mark {
     Wrong,
 }
 
-// The shape of a call's line.
-#[derive(Drop)]
-struct Form {
-    word: &'static [u8],
-    count: usize,
-    lettered: bool,
-}
-
-// By the call's number.
-fn form_of(k: u8) -> Form
-    ensures { λ r. ⌜ (now (r .word) ≡ shape-of k .word) × (r .count ≡ shape-of k .count) × (r .lettered ≡ shape-of k .lettered) × (r .count ≤ 4) ⌝ }
+// The shape of a call's line, by the call's number: its word, how many numbers, and whether letters come last.
+fn shape(k: u8) -> (&'static [u8], usize, bool)
+    ensures { λ r. ⌜ (now (r .0) ≡ shape-of k .word) × (r .1 ≡ shape-of k .count) × (r .2 ≡ shape-of k .lettered) × (r .1 ≤ 4) ⌝ }
 {
     match k {
-        0 => Form {
-            word: b"put",
-            count: 3,
-            lettered: true,
-        },
-        1 => Form {
-            word: b"strike",
-            count: 3,
-            lettered: false,
-        },
-        2 => Form {
-            word: b"accept",
-            count: 1,
-            lettered: false,
-        },
-        3 => Form {
-            word: b"reject",
-            count: 1,
-            lettered: false,
-        },
-        4 => Form {
-            word: b"style",
-            count: 3,
-            lettered: false,
-        },
-        5 => Form {
-            word: b"undo",
-            count: 0,
-            lettered: false,
-        },
-        6 => Form {
-            word: b"redo",
-            count: 0,
-            lettered: false,
-        },
-        7 => Form {
-            word: b"show",
-            count: 4,
-            lettered: false,
-        },
-        8 => Form {
-            word: b"find",
-            count: 2,
-            lettered: true,
-        },
-        9 => Form {
-            word: b"count",
-            count: 1,
-            lettered: false,
-        },
-        10 => Form {
-            word: b"change",
-            count: 1,
-            lettered: false,
-        },
-        _ => Form {
-            word: b"save",
-            count: 2,
-            lettered: false,
-        },
+        0 => (b"put", 3, true),
+        1 => (b"strike", 3, false),
+        2 => (b"accept", 1, false),
+        3 => (b"reject", 1, false),
+        4 => (b"style", 3, false),
+        5 => (b"undo", 0, false),
+        6 => (b"redo", 0, false),
+        7 => (b"show", 4, false),
+        8 => (b"find", 2, true),
+        9 => (b"count", 1, false),
+        10 => (b"change", 1, false),
+        _ => (b"save", 2, false),
     }
 }
 
@@ -251,9 +195,9 @@ fn parse(line: &[u8], k: u8, text: &mut Vec<u8>) -> Result<[u32; 4], Fault>
     requires { ⌜ vec-items (now text) ≡ [] ⌝ }
     ensures { λ r. ⌜ Parses k (now (line .entry)) (vec-items (now (text .exit))) r ⌝ }
 {
-    let form = form_of(k);
-    let (numbers, at) = head(line, form.word, form.count)?;
-    let end = tail(line, at, form.lettered, text)?;
+    let (word, count, lettered) = shape(k);
+    let (numbers, at) = head(line, word, count)?;
+    let end = tail(line, at, lettered, text)?;
     if end < line.len() {
         return Err(Fault::Place(end));
     }
@@ -298,9 +242,8 @@ fn read_as(heap: Global, line: &[u8], k: u8) -> Result<Vec<u8>, Fault>
 {
     let mut text = Vec::new(heap);
     let numbers = parse(line, k, &mut text)?;
-    let form = form_of(k);
-    let count = form.count;
-    write_call(heap, k, &numbers[0..count], form.lettered, text.as_slice())
+    let (_, count, lettered) = shape(k);
+    write_call(heap, k, &numbers[0..count], lettered, text.as_slice())
 }
 
 // The bytes of the call that a line is. A line that is no call is refused at the first byte that does not fit: the furthest place that is
