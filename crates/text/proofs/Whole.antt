@@ -66,7 +66,7 @@ pub joined-plain : (k : ℕ) (ws ls : List ℕ) (b : Bool) → b ≡ false → k
 joined-plain k ws ls b e = rw e (ap (λ z. k ∷ z) (sym (append-nil ws)))
 
 -- n numbers of a list, from place i on
-abbrev firsts : ℕ → ℕ → List ℕ → List ℕ
+abbrev pub firsts : ℕ → ℕ → List ℕ → List ℕ
 firsts i zero ns = []
 firsts i (suc n) ns = getD ns i 0 ∷ firsts (suc i) n ns
 
@@ -74,7 +74,7 @@ firsts-rest : (i n x : ℕ) (xs : List ℕ) → firsts (suc i) n (x ∷ xs) ≡ 
 firsts-rest i zero x xs = refl
 firsts-rest i (suc n) x xs = ap (λ ys. getD xs i 0 ∷ ys) (firsts-rest (suc i) n x xs)
 
-spread : (n : ℕ) (ns : List ℕ) → length ns ≡ n → ns ≡ firsts 0 n ns
+pub spread : (n : ℕ) (ns : List ℕ) → length ns ≡ n → ns ≡ firsts 0 n ns
 spread zero [] e = refl
 spread zero (x ∷ xs) e = absurd (let z : _≡_ {A = ℕ} 0 1 = cc in omega arith)
 spread (suc n) [] e = absurd (let z : _≡_ {A = ℕ} 0 1 = cc in omega arith)

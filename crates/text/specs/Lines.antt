@@ -218,6 +218,26 @@ readable (save i n) = small (i ∷ (n ∷ []))
 abbrev pub Reads-back : Type 0
 Reads-back = (c : Call) → readable c ≡ true → line-reading (line-of c) ≡ means c
 
+-- only the line of a call reads as that call
+abbrev pub Only-line : Type 0
+Only-line = (xs : List ℕ) (c : Call) → line-reading xs ≡ means c → (readable c ≡ true) × (xs ≡ line-of c)
+
+-- Where some lines cease: at a wrong letter, a digit after 0, a number that is too large, more than a call, a missing field, a letter that
+-- has no backslash, a quote that is not closed.
+abbrev pub Places : Type 0
+Places =
+    (line-reading (codes "") ≡ ceases 0)
+    × (line-reading (codes "pux") ≡ ceases 2)
+    × (line-reading (codes "sty") ≡ ceases 3)
+    × (line-reading (codes "put 01") ≡ ceases 5)
+    × (line-reading (codes "accept 4294967295") ≡ means (accepts 4294967295))
+    × (line-reading (codes "accept 4294967296") ≡ ceases 16)
+    × (line-reading (codes "undo again") ≡ ceases 4)
+    × (line-reading (codes "show 0 8") ≡ ceases 8)
+    × (line-reading (codes "find 0 7 \"a\\n\\\"\"") ≡ means (find 0 7 (97 ∷ (10 ∷ (34 ∷ [])))))
+    × (line-reading (codes "find 0 7 \"a\\b") ≡ ceases 12)
+    × (line-reading (codes "find 0 7 \"ab") ≡ ceases 12)
+
 abbrev pub Limits-back : Type 0
 Limits-back = (cells changes undos : ℕ) → cells < 4294967296 → changes < 4294967296 → undos < 4294967296 → limits-reading (limits-line cells changes undos) ≡ means (cells ∷ (changes ∷ (undos ∷ [])))
 
