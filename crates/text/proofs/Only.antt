@@ -20,7 +20,7 @@ use Rattle.text.proofs.Steps.{after-mark, letters-cons}
 use Rattle.text.proofs.Whole.{firsts, spread, tried}
 
 -- a step that stops reads nothing
-no-got : {A : Type 0} {a : A} {xs ys : List ℕ} → stop xs ≡ got a ys → ⊥
+pub no-got : {A : Type 0} {a : A} {xs ys : List ℕ} → stop xs ≡ got a ys → ⊥
 no-got h = let z : _≡_ {A = ℕ} 0 1 = cc in omega arith
 
 -- two steps, one after the other
@@ -48,7 +48,7 @@ literal-only (w ∷ ws) (x ∷ xs) rest h = go (eqb x w) refl (literal-only ws x
 abbrev Written : ℕ → List ℕ → ℕ → List ℕ → Type 0
 Written n xs v rest = (decimal n ++ xs ≡ decimal v ++ rest) × (v < 4294967296)
 
-one-more : (n x : ℕ) (xs : List ℕ) → 0 < n → 48 ≤ x → x ≤ 57 → n * 10 + (x - 48) < 4294967296 → decimal n ++ (x ∷ xs) ≡ decimal (n * 10 + (x - 48)) ++ xs
+pub one-more : (n x : ℕ) (xs : List ℕ) → 0 < n → 48 ≤ x → x ≤ 57 → n * 10 + (x - 48) < 4294967296 → decimal n ++ (x ∷ xs) ≡ decimal (n * 10 + (x - 48)) ++ xs
 one-more n x xs pos low high fits =
     let m : ℕ = n * 10 + (x - 48) in
     let ten : 10 ≤ m = omega arith in
@@ -104,17 +104,17 @@ number-only (x ∷ xs) v rest h = go (eqb x 48) (digit x) refl refl h
         (ap (λ y. y ∷ xs) (sym back) ∙ (ap (λ ds. ds ++ xs) (sym (decimal-digit (x - 48) ten)) ∙ w .0), w .1)
     go false false e d k = absurd (no-got k)
 
-field-only : (xs : List ℕ) (v : ℕ) (rest : List ℕ) → field-in xs ≡ got v rest → (xs ≡ 32 ∷ (decimal v ++ rest)) × (v < 4294967296)
+pub field-only : (xs : List ℕ) (v : ℕ) (rest : List ℕ) → field-in xs ≡ got v rest → (xs ≡ 32 ∷ (decimal v ++ rest)) × (v < 4294967296)
 field-only xs v rest h =
     let b = both (literal-in (codes " ") xs) (λ _ ys. number-in ys) v rest h in
     let n = number-only (b .left) v rest (b .second) in
     (literal-only (codes " ") xs (b .left) (b .first) ∙ ap (λ ys. 32 ∷ ys) (n .0), n .1)
 
 -- n numbers that are read after those in acc
-abbrev Numbered : ℕ → List ℕ → List ℕ → List ℕ → List ℕ → Type 0
+abbrev pub Numbered : ℕ → List ℕ → List ℕ → List ℕ → List ℕ → Type 0
 Numbered n acc xs ns rest = (ms : List ℕ) × (ns ≡ acc ++ ms) × (xs ≡ numbers-line ms ++ rest) × (length ms ≡ n) × (small ms ≡ true)
 
-numbers-only : (n : ℕ) (acc xs ns rest : List ℕ) → numbers-in n acc xs ≡ got ns rest → Numbered n acc xs ns rest
+pub numbers-only : (n : ℕ) (acc xs ns rest : List ℕ) → numbers-in n acc xs ≡ got ns rest → Numbered n acc xs ns rest
 unfolding numbers-in numbers-line small
 numbers-only zero acc xs ns rest h =
     let e : acc ≡ ns = cc in
@@ -133,14 +133,14 @@ numbers-only (suc n) acc xs ns rest h =
     )
 
 -- the backslash that came before, if any
-abbrev slash : Bool → List ℕ
+abbrev pub slash : Bool → List ℕ
 slash true = 92 ∷ []
 slash false = []
 
 no-letter : {l : ℕ} → Wrong ≡ Letter l → ⊥
 no-letter h = let z : _≡_ {A = ℕ} 0 1 = cc in omega arith
 
-letter-only : (e : Bool) (x l : ℕ) → mark-of e x ≡ Letter l → slash e ++ (x ∷ []) ≡ letter-line l
+pub letter-only : (e : Bool) (x l : ℕ) → mark-of e x ≡ Letter l → slash e ++ (x ∷ []) ≡ letter-line l
 letter-only true x l h = go (eqb x 110) (eqb x 34) (eqb x 92) refl refl refl h
   where
     go : (a b c : Bool) → eqb x 110 ≡ a → eqb x 34 ≡ b → eqb x 92 ≡ c → pick a (Letter 10) (pick b (Letter 34) (pick c (Letter 92) Wrong)) ≡ Letter l → 92 ∷ (x ∷ []) ≡ letter-line l
@@ -159,7 +159,7 @@ letter-only false x l h = go (eqb x 34) (eqb x 92) (eqb x 10) refl refl refl h
         let own : letter-line x ≡ x ∷ [] = rw (r, p, q) in
         sym own ∙ ap letter-line e
 
-slash-only : (e : Bool) (x : ℕ) → mark-of e x ≡ Backslash → (e ≡ false) × (x ≡ 92)
+pub slash-only : (e : Bool) (x : ℕ) → mark-of e x ≡ Backslash → (e ≡ false) × (x ≡ 92)
 slash-only true x h = absurd (go (eqb x 110) (eqb x 34) (eqb x 92) h)
   where
     go : (a b c : Bool) → pick a (Letter 10) (pick b (Letter 34) (pick c (Letter 92) Wrong)) ≡ Backslash → ⊥
@@ -220,24 +220,23 @@ letters-only (x ∷ xs) e acc ls rest h = go (mark-of e x) refl (λ d bs. letter
     go Wrong p more k = absurd (no-got k)
 
 -- the letters of a line, where it has any
-abbrev tail-line : Bool → List ℕ → List ℕ
+abbrev pub tail-line : Bool → List ℕ → List ℕ
 tail-line true ls = quoted-line ls
 tail-line false ls = []
 
-tail-only : (b : Bool) (ys ls zs : List ℕ) → tail-in b ys ≡ got ls zs → zs ≡ [] → ys ≡ tail-line b ls
-tail-only true ys ls zs h e =
+pub tail-only : (b : Bool) (ys ls zs : List ℕ) → tail-in b ys ≡ got ls zs → ys ≡ tail-line b ls ++ zs
+tail-only true ys ls zs h =
     let q = both (literal-in (32 ∷ (34 ∷ [])) ys) (λ _ us. letters-in false [] us) ls zs h in
     let m = letters-only (q .left) false [] ls zs (q .second) in
-    literal-only (32 ∷ (34 ∷ [])) ys (q .left) (q .first)
-    ∙ ap (λ us. 32 ∷ (34 ∷ us)) (m .2 ∙ (ap (λ us. letters-line (m .0) ++ us) e ∙ (append-nil (letters-line (m .0)) ∙ ap letters-line (sym (m .1)))))
-tail-only false ys ls zs h e = let r : ys ≡ zs = cc in r ∙ e
+    literal-only (32 ∷ (34 ∷ [])) ys (q .left) (q .first) ∙ ap (λ us. 32 ∷ (34 ∷ us)) (m .2 ∙ ap (λ us. letters-line us ++ zs) (sym (m .1)))
+tail-only false ys ls zs h = cc
 
 ended-only : {A : Type 0} (a c : A) (zs rest : List ℕ) → ended a zs ≡ got c rest → (zs ≡ []) × (a ≡ c)
 ended-only a c [] rest h = (refl, cc)
 ended-only a c (z ∷ zs) rest h = absurd (no-got h)
 
 -- the line of a call by its number, its numbers and its letters; and that it can be read
-abbrev Its-line : ℕ → List ℕ → List ℕ → Type 0
+abbrev pub Its-line : ℕ → List ℕ → List ℕ → Type 0
 Its-line k ns ls = (shape-of k .word ++ (numbers-line ns ++ tail-line (shape-of k .lettered) ls) ≡ line-of (call-of k ns ls)) × (readable (call-of k ns ls) ≡ small ns)
 
 plain-line : (w ns ms : List ℕ) → ns ≡ ms → w ++ (numbers-line ns ++ []) ≡ w ++ numbers-line ms
@@ -251,7 +250,7 @@ none-small : (ns : List ℕ) → ns ≡ [] → true ≡ small ns
 unfolding small
 none-small ns e = ap small (sym e)
 
-its-line : (k : ℕ) (ns ls : List ℕ) → k < 12 → length ns ≡ shape-of k .count → Its-line k ns ls
+pub its-line : (k : ℕ) (ns ls : List ℕ) → k < 12 → length ns ≡ shape-of k .count → Its-line k ns ls
 unfolding call-of line-of readable
 its-line zero ns ls h e = let s = spread 3 ns e in (ap (λ ms. codes "put" ++ (numbers-line ms ++ quoted-line ls)) s, ap small (sym s))
 its-line (suc zero) ns ls h e = let s = spread 3 ns e in (plain-line (codes "strike") ns (firsts 0 3 ns) s, ap small (sym s))
@@ -286,7 +285,7 @@ call-only k xs c rest lt h =
     let own = its-line k ns ls lt (ap length (m .1) ∙ m .3) in (
       ap readable (sym (e .1)) ∙ (own .1 ∙ (ap small (m .1) ∙ m .4)),
       literal-only w xs (q .left) (q .first)
-          ∙ (ap (λ us. w ++ us) (m .2 ∙ (ap (λ us. numbers-line us ++ p .left) (sym (m .1)) ∙ ap (λ us. numbers-line ns ++ us) (tail-only b (p .left) ls (t .left) (t .first) (e .0))))
+          ∙ (ap (λ us. w ++ us) (m .2 ∙ (ap (λ us. numbers-line us ++ p .left) (sym (m .1)) ∙ ap (λ us. numbers-line ns ++ us) (tail-only b (p .left) ls (t .left) (t .first) ∙ (ap (λ us. tail-line b ls ++ us) (e .0) ∙ append-nil (tail-line b ls)))))
           ∙ (own .0 ∙ ap line-of (e .1))),
     )
 

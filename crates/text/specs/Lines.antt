@@ -222,6 +222,13 @@ Reads-back = (c : Call) → readable c ≡ true → line-reading (line-of c) ≡
 abbrev pub Only-line : Type 0
 Only-line = (xs : List ℕ) (c : Call) → line-reading xs ≡ means c → (readable c ≡ true) × (xs ≡ line-of c)
 
+-- a line that ceases at a place: up to there it is the beginning of some call's line
+abbrev pub Begins-call : List ℕ → ℕ → Type 0
+Begins-call xs i = (i ≤ length xs) × ((c : Call) × (more : List ℕ) × (readable c ≡ true) × (line-of c ≡ take i xs ++ more))
+
+abbrev pub Place-begins : Type 0
+Place-begins = (xs : List ℕ) (i : ℕ) → line-reading xs ≡ ceases i → Begins-call xs i
+
 -- Where some lines cease: at a wrong letter, a digit after 0, a number that is too large, more than a call, a missing field, a letter that
 -- has no backslash, a quote that is not closed.
 abbrev pub Places : Type 0
