@@ -1,0 +1,23 @@
+use mathlib.Core.Path.{_≡_, sym, _∙_}
+use Prim.Native.Nat.{_-_, _≤_, _<_}
+use native.Mathlib.Omega.{arith}
+use Rattle.pieces.specs.Edits.{Packed}
+use Rattle.pieces.proofs.Packs.{packed-spare, same-before}
+use Rattle.pieces.proofs.Cuts.{recounted, recounted-used, same-both}
+use Rattle.pieces.proofs.repack.Needs as need
+
+pub returns : need.returns
+returns c =
+    let s = c .args .s in
+    let inv = c .loop-j .inv in
+    let o = inv .0 .order in
+    let some = o .some in
+    let e : c .loop-j .j ≡ s = omega arith in
+    let packed : Packed (c .loop-j .p) (c .loop-j .i) s = rw e at (inv .2) in
+    let b = same-before (c .args .c .now) (c .args .p .now) (c .loop-j .c) (c .loop-j .p) s (inv .0) in
+    record {
+        same = same-both (c .args .c .now) (c .args .p .now) (c .loop-j .c) (c .loop-j .p) (c .loop-j .c) (c .recount .last .p) s (inv .0)
+            (recounted (c .loop-j .c) (c .loop-j .p) (c .recount .last .p) s o (c .recount .ensures .same));
+        sums = c .recount .ensures .sums;
+        spare = λ l. recounted-used (c .loop-j .c) (c .loop-j .p) (c .recount .last .p) s o (c .recount .ensures .same) (s - 1) (omega arith)
+            ∙ packed-spare (c .loop-j .p) s (c .loop-j .i) some packed (omega arith) (omega arith) }
