@@ -12,6 +12,10 @@ use Rattle.pieces.specs.Store.{slot, used, piece, Order}
 use Rattle.pieces.specs.Edits.{replaced, Filled}
 use Rattle.pieces.proofs.Change.{filled}
 
+cells-one : (c : List ℕ) (a : ℕ) → cellsAt c a 1 ≡ cellAt c a ∷ []
+unfolding cellsAt
+cells-one c a = refl
+
 -- n cells ys put in at cell o of u
 pub inserted : (c d e p : List ℕ) (k o n at : ℕ) (ys : List Cell) → o ≤ used p k → used p k + n ≤ 1024 → at ≡ 1024 * slot p k + o
     → cellsAt d (at + n) (used p k - o) ≡ cellsAt c at (used p k - o) → Kept c d (at + n) (used p k - o)
@@ -59,3 +63,22 @@ appended c d p i j o n at to l m w v copied h =
     let dr = drop-cells c b (used p j) o (omega arith) in
     let tk = take-cells c (b + o) (used p j - o) n (omega arith) in
     filled c d p i (u + n) (cellsAt c a u ++ take n (drop o (cellsAt c b (used p j)))) (cc) (kept-wider c d to n h a 1024 (omega arith) (omega arith))
+
+-- cell o written over
+pub overwritten : (c d p : List ℕ) (k o at : ℕ) (x : Cell) → o < used p k → used p k ≤ 1024 → at ≡ 1024 * slot p k + o → cellAt d at ≡ x → Kept c d at 1
+    → Filled c d p k (replaced (piece c p k) o 1 (x ∷ []))
+unfolding piece
+overwritten c d p k o at x l m w e h =
+    let a = 1024 * slot p k in
+    let u = used p k in
+    let n = u - (o + 1) in
+    let t : u ≡ o + (1 + n) = omega arith in
+    let s1 = cells-split d a o (1 + n) in
+    let s2 = cells-split d at 1 n in
+    let one = cells-one d at in
+    let front = kept-cells-below c d at 1 h a o (omega arith) in
+    let back = kept-cells-above c d at 1 h (at + 1) n (omega arith) in
+    let g : at + 1 ≡ a + (o + 1) = omega arith in
+    let tk = take-cells c a u o (omega arith) in
+    let dr = drop-cells c a u (o + 1) (omega arith) in
+    filled c d p k u (replaced (cellsAt c a u) o 1 (x ∷ [])) (cc) (kept-wider c d at 1 h a 1024 (omega arith) (omega arith))

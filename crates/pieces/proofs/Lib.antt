@@ -7,3 +7,4 @@ mod Leaves
 mod Cells
 mod Cuts
 mod Packs
+mod Edit

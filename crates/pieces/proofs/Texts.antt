@@ -21,6 +21,18 @@ pub before-more : (p : List ℕ) (k : ℕ) → before p (k + 1) ≡ before p k +
 unfolding before
 before-more p k = rw add-one
 
+pub before-mono : (p : List ℕ) (k n : ℕ) → before p k ≤ before p (k + n)
+unfolding before
+before-mono p k zero = rw add-zero (omega arith)
+before-mono p k (suc n) = rw add-suc (omega (arith, before-mono p k n))
+
+-- piece k ends within the text
+pub before-within : (p : List ℕ) (s k : ℕ) → k < s → before p k + used p k ≤ before p s
+before-within p s k l =
+    let e : k + 1 + (s - (k + 1)) ≡ s = omega arith in
+    let m : before p (k + 1) ≤ before p s = rw e at (before-mono p (k + 1) (s - (k + 1))) in
+    omega (arith, before-more p k)
+
 -- the first k pieces have as many cells as stand before piece k
 pub length-before : (c p : List ℕ) (k : ℕ) → length (strung (piece c p) 0 k) ≡ before p k
 unfolding before

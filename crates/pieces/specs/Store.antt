@@ -83,10 +83,22 @@ pub record Frame (c p d q : List ℕ) (s : ℕ) : Type 0 where
   -- words between the order and the tree
   pub spare : (k : ℕ) → s ≤ k → k < 2048 → getD q k 0 ≡ getD p k 0
 
+-- a change of a store, after which the text is xs
+pub record Edited (c p d q : List ℕ) (s : ℕ) (xs : List Cell) : Type 0 where
+  pub store : Store d q s
+  pub frame : Frame c p d q s
+  pub text : cells-of d q s ≡ xs
+
 -- cell `place` of the text is cell o of piece k
 pub record Located (p : List ℕ) (s place k o : ℕ) : Type 0 where
   pub here : k < s
   pub within : o < used p k
+  pub sum : before p k + o ≡ place
+
+-- a cell put in at `place` goes before cell o of piece k, or behind its last
+pub record Gap (p : List ℕ) (s place k o : ℕ) : Type 0 where
+  pub here : k < s
+  pub within : o ≤ used p k
   pub sum : before p k + o ≡ place
 
 -- a store of s slots that has just been cleared, over memory that was c and p

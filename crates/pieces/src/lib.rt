@@ -5,10 +5,10 @@ ghost use mathlib.Core.Path.{_≡_};
 ghost use mathlib.Core.List.{_++_, []};
 ghost use mathlib.Core.Logic.{_≢_};
 ghost use Prim.Native.Nat.{ℕ, _+_, _-_, _*_, _/_, _<_, _≤_};
-ghost use lib.ListN.{length, getD, take, drop, replicate};
+ghost use lib.ListN.{length, getD, set, take, drop, replicate};
 ghost use Rattle.model.specs.Values.{cell-of};
 ghost use Rattle.std.specs.Iters.{counting};
-ghost use Rattle.pieces.specs.Store.{used as uses, number, piece, cells-of, before, no-cell, cleared-cells, cleared-words, Frame, Located, Order, Table, Store};
+ghost use Rattle.pieces.specs.Store.{used as uses, number, piece, cells-of, before, no-cell, cleared-cells, cleared-words, Edited, Gap, Located, Order, Table, Store};
 ghost use Rattle.pieces.specs.Edits.{replaced, Changed, Cut, Filled, Packed, Recounted, Resized, Rotated, Same-text, Shifted};
 ghost use Rattle.model.specs.Paper.{new-cells};
 ghost use Rattle.tree.specs.Tree.{Sums};
@@ -87,6 +87,49 @@ pub fn locate(p: &[u32], s: usize, place: usize) -> Spot
     }
 }
 
+// Writes cell `o` of piece `k`.
+pub fn overwrite(c: &mut [u32], p: &[u32], s: usize, k: usize, o: usize, cell: Cell)
+    requires store { ⌜ Store (now c) (now p) s ⌝ }
+    requires here { ⌜ k < s ⌝ }
+    requires within { ⌜ o < uses (now p) k ⌝ }
+    ensures { λ _. ⌜ Edited (now (c .entry)) (now (p .entry)) (now (c .exit)) (now (p .entry)) s (set (cells-of (now (c .entry)) (now (p .entry)) s) (before (now (p .entry)) k + o) (cell-of cell)) ⌝ }
+{
+    slots::write(c, number_of(p, s, k, o), cell);
+}
+
+// Puts letters into the text at `place`: new cells in one style, put in by one change.
+pub fn put(c: &mut [u32], p: &mut [u32], s: usize, place: usize, letters: &[u8], style: u32, change: u32)
+    requires store { ⌜ Store (now c) (now p) s ⌝ }
+    requires place { ⌜ place ≤ length (cells-of (now c) (now p) s) ⌝ }
+    requires few { ⌜ length (now letters) ≤ 1024 ⌝ }
+    requires fits { ⌜ length (cells-of (now c) (now p) s) + length (now letters) ≤ 768 * (s - 1) ⌝ }
+    requires mark { ⌜ change < 4294967295 ⌝ }
+    ensures { λ _. ⌜ Edited (now (c .entry)) (now (p .entry)) (now (c .exit)) (now (p .exit)) s (take place (cells-of (now (c .entry)) (now (p .entry)) s) ++ (new-cells (now (letters .entry)) style change ++ drop place (cells-of (now (c .entry)) (now (p .entry)) s))) ⌝ }
+{
+    let spot = gap(p, s, place);
+    let has = used(p, spot.piece) + letters.len();
+    let last = used(p, s - 1);
+    if has <= CELLS || last == 0 {
+        insert(c, p, s, spot, letters, style, change);
+        return;
+    }
+    repack(c, p, s);
+    let spot = gap(p, s, place);
+    insert(c, p, s, spot, letters, style, change);
+}
+
+// Takes `n` cells out of the text, from `place` on.
+pub fn remove(c: &mut [u32], p: &mut [u32], s: usize, place: usize, n: usize)
+    requires store { ⌜ Store (now c) (now p) s ⌝ }
+    requires within { ⌜ place + n ≤ length (cells-of (now c) (now p) s) ⌝ }
+    ensures { λ _. ⌜ Edited (now (c .entry)) (now (p .entry)) (now (c .exit)) (now (p .exit)) s (take place (cells-of (now (c .entry)) (now (p .entry)) s) ++ drop (place + n) (cells-of (now (c .entry)) (now (p .entry)) s)) ⌝ }
+{
+    let mut left = n;
+    while left > 0 {
+        left -= remove_some(c, p, s, place, left);
+    }
+}
+
 // Makes an empty text in `s` slots. Every word of the slots, the order and the tree is known afterwards.
 pub fn clear(c: &mut [u32], p: &mut [u32], s: usize)
     requires some { ⌜ 0 < s ⌝ }
@@ -122,6 +165,64 @@ fn enumerate(w: &mut [u32], n: usize)
     for i in 0..n {
         w[i] = i as u32;
     }
+}
+
+// Where a cell that is put in at `place` goes: at the front, or just behind the cell before it.
+fn gap(p: &[u32], s: usize, place: usize) -> Spot
+    requires table { ⌜ Table (now p) s ⌝ }
+    requires place { ⌜ place ≤ before (now p) s ⌝ }
+    ensures { λ r. ⌜ Gap (now (p .entry)) s place (r .piece) (r .offset) ⌝ }
+{
+    if place == 0 {
+        return Spot {
+            piece: 0,
+            offset: 0,
+        };
+    }
+    let spot = locate(p, s, place - 1);
+    Spot {
+        piece: spot.piece,
+        offset: spot.offset + 1,
+    }
+}
+
+// Puts the letters in at a gap. If they do not fit the piece there, it is cut at the gap, which takes the last piece.
+fn insert(c: &mut [u32], p: &mut [u32], s: usize, spot: Spot, letters: &[u8], style: u32, change: u32)
+    requires store { ⌜ Store (now c) (now p) s ⌝ }
+    requires here { ⌜ spot .piece < s ⌝ }
+    requires within { ⌜ spot .offset ≤ uses (now p) (spot .piece) ⌝ }
+    requires few { ⌜ length (now letters) ≤ 1024 ⌝ }
+    requires spare { ⌜ (1024 < uses (now p) (spot .piece) + length (now letters) → uses (now p) (s - 1) ≡ 0) ⌝ }
+    requires mark { ⌜ change < 4294967295 ⌝ }
+    ensures { λ _. ⌜ Edited (now (c .entry)) (now (p .entry)) (now (c .exit)) (now (p .exit)) s (replaced (cells-of (now (c .entry)) (now (p .entry)) s) (before (now (p .entry)) (spot .piece) + spot .offset) 0 (new-cells (now (letters .entry)) style change)) ⌝ }
+{
+    let k = spot.piece;
+    let o = spot.offset;
+    let n = letters.len();
+    if used(p, k) + n <= CELLS {
+        insert_here(c, p, s, k, o, letters, style, change);
+        return;
+    }
+    split(c, p, s, k, o);
+    let first = n.min(CELLS - o);
+    insert_here(c, p, s, k, o, &letters[0..first], style, change);
+    insert_here(c, p, s, k + 1, 0, &letters[first..], style, change);
+}
+
+// Takes out cells from `place` on, as far as one piece has them and at most `n`. Returns how many.
+fn remove_some(c: &mut [u32], p: &mut [u32], s: usize, place: usize, n: usize) -> usize
+    requires store { ⌜ Store (now c) (now p) s ⌝ }
+    requires within { ⌜ place + n ≤ before (now p) s ⌝ }
+    requires some { ⌜ 0 < n ⌝ }
+    ensures edited { λ r. ⌜ Edited (now (c .entry)) (now (p .entry)) (now (c .exit)) (now (p .exit)) s (replaced (cells-of (now (c .entry)) (now (p .entry)) s) place r []) ⌝ }
+    ensures some { λ r. ⌜ 0 < r ⌝ }
+    ensures most { λ r. ⌜ r ≤ n ⌝ }
+{
+    let spot = locate(p, s, place);
+    let has = used(p, spot.piece) - spot.offset;
+    let m = n.min(has);
+    remove_here(c, p, s, spot.piece, spot.offset, m);
+    m
 }
 
 // Piece `k` gets the length `n`. The counts above it are not right afterwards.
