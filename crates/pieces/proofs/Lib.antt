@@ -7,4 +7,4 @@ mod Leaves
 mod Cells
 mod Cuts
 mod Packs
-mod Edit
+pub mod Edit

@@ -47,7 +47,7 @@ pub fn used(p: &[u32], k: usize) -> usize
 }
 
 // The number of cell `j` of piece `k`.
-fn number_of(p: &[u32], s: usize, k: usize, j: usize) -> usize
+pub fn number_of(p: &[u32], s: usize, k: usize, j: usize) -> usize
     requires order { ⌜ Order (now p) s ⌝ }
     requires here { ⌜ k < s ⌝ }
     requires within { ⌜ j ≤ 1024 ⌝ }
@@ -236,7 +236,7 @@ fn set_length(p: &mut [u32], k: usize, n: usize)
 }
 
 // Piece `k` gets the length `n`, and the counts above it follow.
-fn resize(p: &mut [u32], k: usize, n: usize)
+pub fn resize(p: &mut [u32], k: usize, n: usize)
     requires leaf { ⌜ k < 2048 ⌝ }
     requires words { ⌜ 6144 ≤ length (now p) ⌝ }
     requires small { ⌜ n ≤ 1024 ⌝ }

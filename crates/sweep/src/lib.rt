@@ -3,9 +3,13 @@ ghost use Prim.Native.Nat.{ℕ, suc, _+_, _-_, _*_, _<_, _≤_};
 ghost use Rattle.changes.specs.Row.{changes-of};
 ghost use Rattle.model.specs.Paper.{author-of};
 ghost use Rattle.model.specs.Values.{cell-of};
-ghost use Rattle.sweep.specs.Sweep.{fate as fate-of, left-of, One-meaning, Writable};
+ghost use Rattle.pieces.specs.Edits.{Changed, Filled};
+ghost use Rattle.pieces.specs.Store.{Order, Store, piece, used};
+ghost use Rattle.slots.specs.Cells.{Kept, cellAt, cellsAt};
+ghost use Rattle.sweep.specs.Sweep.{fate as fate-of, left-of, One-meaning, swept, swept-run, Writable};
 ghost use lib.Dec.{eqb};
-ghost use lib.ListN.{length};
+ghost use lib.ListN.{drop, length, take};
+ghost use mathlib.Core.List.{_++_};
 ghost use mathlib.Core.Path.{_≡_};
 use model::Cell;
 
@@ -85,4 +89,74 @@ fn fate(cell: Cell, action: Action, changes: &[u32], row: usize) -> Option<Cell>
         }
         Action::Style { style } => Some(Cell { style, ..cell }),
     }
+}
+
+// Writes what becomes of cell `i` behind the first `stay` cells, all counted from number `at` on. Returns how many there are now.
+fn sweep_cell(c: &mut [u32], at: usize, i: usize, stay: usize, action: Action, changes: &[u32], row: usize) -> usize
+    requires room { ⌜ 4 * (at + i) + 4 ≤ length (now c) ⌝ }
+    requires behind { ⌜ stay ≤ i ⌝ }
+    requires row { ⌜ 2 * row ≤ length (now changes) ⌝ }
+    requires mark { ⌜ Writable action ⌝ }
+    ensures behind { λ r. ⌜ r ≤ i + 1 ⌝ }
+    ensures cells { λ r. ⌜ cellsAt (now (c .exit)) at r ≡ cellsAt (now (c .entry)) at stay ++ fate-of action (changes-of (now (changes .entry)) row) (cellAt (now (c .entry)) (at + i)) ⌝ }
+    ensures kept { λ r. ⌜ Kept (now (c .entry)) (now (c .exit)) at r ⌝ }
+{
+    match fate(slots::read(c, at + i), action, changes, row) {
+        None => stay,
+        Some(cell) => {
+            slots::write(c, at + stay, cell);
+            stay + 1
+        }
+    }
+}
+
+// Sweeps the `n` cells from number `at` on. What is left of them stands at the front. Returns how many are left.
+fn sweep_cells(c: &mut [u32], at: usize, n: usize, action: Action, changes: &[u32], row: usize) -> usize
+    requires room { ⌜ 4 * (at + n) ≤ length (now c) ⌝ }
+    requires row { ⌜ 2 * row ≤ length (now changes) ⌝ }
+    requires mark { ⌜ Writable action ⌝ }
+    ensures few { λ r. ⌜ r ≤ n ⌝ }
+    ensures cells { λ r. ⌜ cellsAt (now (c .exit)) at r ≡ swept action (changes-of (now (changes .entry)) row) (cellsAt (now (c .entry)) at n) ⌝ }
+    ensures kept { λ _. ⌜ Kept (now (c .entry)) (now (c .exit)) at n ⌝ }
+{
+    let mut stay = 0;
+    for i in 0..n {
+        stay = sweep_cell(c, at, i, stay, action, changes, row);
+    }
+    stay
+}
+
+// Sweeps `n` cells in the slot of piece `k`, from its cell `o` on, and moves those behind them down. Returns how many of the `n` are left.
+fn sweep_slot(c: &mut [u32], p: &[u32], s: usize, k: usize, o: usize, n: usize, action: Action, changes: &[u32], row: usize) -> usize
+    requires order { ⌜ Order (now p) s ⌝ }
+    requires room { ⌜ 4096 * s ≤ length (now c) ⌝ }
+    requires here { ⌜ k < s ⌝ }
+    requires within { ⌜ o + n ≤ used (now p) k ⌝ }
+    requires row { ⌜ 2 * row ≤ length (now changes) ⌝ }
+    requires mark { ⌜ Writable action ⌝ }
+    ensures filled { λ _. ⌜ Filled (now (c .entry)) (now (c .exit)) (now (p .entry)) k (swept-run action (changes-of (now (changes .entry)) row) (piece (now (c .entry)) (now (p .entry)) k) o n) ⌝ }
+    ensures left { λ r. ⌜ r ≡ length (swept action (changes-of (now (changes .entry)) row) (take n (drop o (piece (now (c .entry)) (now (p .entry)) k)))) ⌝ }
+    ensures few { λ r. ⌜ r ≤ n ⌝ }
+{
+    let at = pieces::number_of(p, s, k, o);
+    let left = sweep_cells(c, at, n, action, changes, row);
+    slots::copy(c, at + n, at + left, pieces::used(p, k) - (o + n));
+    left
+}
+
+// Sweeps `n` cells of piece `k`, from its cell `o` on. Returns how many of them are left.
+fn sweep_piece(c: &mut [u32], p: &mut [u32], s: usize, k: usize, o: usize, n: usize, action: Action, changes: &[u32], row: usize) -> usize
+    requires store { ⌜ Store (now c) (now p) s ⌝ }
+    requires here { ⌜ k < s ⌝ }
+    requires within { ⌜ o + n ≤ used (now p) k ⌝ }
+    requires row { ⌜ 2 * row ≤ length (now changes) ⌝ }
+    requires mark { ⌜ Writable action ⌝ }
+    ensures changed { λ _. ⌜ Changed (now (c .entry)) (now (p .entry)) (now (c .exit)) (now (p .exit)) s k (swept-run action (changes-of (now (changes .entry)) row) (piece (now (c .entry)) (now (p .entry)) k) o n) ⌝ }
+    ensures store { λ _. ⌜ Store (now (c .exit)) (now (p .exit)) s ⌝ }
+    ensures left { λ r. ⌜ r ≡ length (swept action (changes-of (now (changes .entry)) row) (take n (drop o (piece (now (c .entry)) (now (p .entry)) k)))) ⌝ }
+{
+    let left = sweep_slot(c, p, s, k, o, n, action, changes, row);
+    let has = pieces::used(p, k) - n + left;
+    pieces::resize(p, k, has);
+    left
 }
