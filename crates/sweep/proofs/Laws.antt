@@ -8,7 +8,7 @@ use native.Mathlib.Nat.{add-zero, zero-add, add-suc, suc-add}
 use native.Mathlib.Omega.{arith}
 use lib.Dec.{eqb, eqb·zero-suc, eqb·suc-suc}
 use lib.ListN.{length, getD, take, drop}
-use Rattle.std.proofs.shelf.Lists.{append-assoc, append-nil, getD-past}
+use Rattle.std.proofs.shelf.Lists.{append-assoc, drop-drop, getD-past}
 use Rattle.model.specs.Paper.{pick, Cell, Change, author-of, strike, accept, reject, styled}
 use Rattle.pieces.specs.Edits.{replaced}
 use Rattle.changes.specs.Row.{change-at, changes-of}
@@ -42,27 +42,37 @@ reject-swept cs [] c = refl
 reject-swept cs (x ∷ xs) c = rw (reject-swept cs xs c) (pick-front (goes (Reject c) cs x) (changed (Reject c) x) (swept (Reject c) cs xs))
 
 -- one cell more at the front
-swept-run-more : (a : Action) (cs : List Change) (x : Cell) (xs : List Cell) (n : ℕ)
-    → swept-run a cs (x ∷ xs) 0 (suc n) ≡ fate a cs x ++ swept-run a cs xs 0 n
+front-more : (a : Action) (cs : List Change) (x : Cell) (xs : List Cell) (n : ℕ)
+    → swept a cs (take (suc n) (x ∷ xs)) ++ drop n xs ≡ fate a cs x ++ (swept a cs (take n xs) ++ drop n xs)
 unfolding swept
-swept-run-more a cs x xs n = simp (zero-add, append-assoc)
+front-more a cs x xs n = append-assoc (fate a cs x) (swept a cs (take n xs)) (drop n xs)
 
-pub strike-swept : (cs : List Change) (xs : List Cell) (n a c : ℕ) → strike xs n cs a c ≡ swept-run (Strike a c) cs xs 0 n
+pub strike-swept : (cs : List Change) (xs : List Cell) (n a c : ℕ) → strike xs n cs a c ≡ swept (Strike a c) cs (take n xs) ++ drop n xs
 unfolding strike swept
 strike-swept cs [] zero a c = refl
-strike-swept cs [] (suc n) a c = rw zero-add
+strike-swept cs [] (suc n) a c = refl
 strike-swept cs (x ∷ xs) zero a c = refl
-strike-swept cs (x ∷ xs) (suc n) a c = rw (strike-swept cs xs n a c) (pick-front (goes (Strike a c) cs x) (changed (Strike a c) x) (swept-run (Strike a c) cs xs 0 n) ∙ sym (swept-run-more (Strike a c) cs x xs n))
+strike-swept cs (x ∷ xs) (suc n) a c =
+    let act : Action = Strike a c in
+    rw (strike-swept cs xs n a c) (pick-front (goes act cs x) (changed act x) (swept act cs (take n xs) ++ drop n xs) ∙ sym (front-more act cs x xs n))
 
-pub styled-swept : (cs : List Change) (xs : List Cell) (n s : ℕ) → styled xs n s ≡ swept-run (Style s) cs xs 0 n
+pub styled-swept : (cs : List Change) (xs : List Cell) (n s : ℕ) → styled xs n s ≡ swept (Style s) cs (take n xs) ++ drop n xs
 unfolding styled swept
 styled-swept cs [] zero s = refl
-styled-swept cs [] (suc n) s = rw zero-add
+styled-swept cs [] (suc n) s = refl
 styled-swept cs (x ∷ xs) zero s = refl
-styled-swept cs (x ∷ xs) (suc n) s = rw (styled-swept cs xs n s) (sym (swept-run-more (Style s) cs x xs n))
+styled-swept cs (x ∷ xs) (suc n) s = rw (styled-swept cs xs n s) (sym (front-more (Style s) cs x xs n))
+
+-- from place i on
+pub swept-run-at : (a : Action) (cs : List Change) (xs : List Cell) (i n : ℕ) → take i xs ++ (swept a cs (take n (drop i xs)) ++ drop n (drop i xs)) ≡ swept-run a cs xs i n
+swept-run-at a cs xs i n = rw drop-drop
 
 pub one-meaning : One-meaning
-one-meaning cs xs = (accept-swept cs xs, reject-swept cs xs, strike-swept cs xs, styled-swept cs xs)
+one-meaning cs xs =
+    (accept-swept cs xs,
+     reject-swept cs xs,
+     (λ i n a c. ap (λ ys. take i xs ++ ys) (strike-swept cs (drop i xs) n a c) ∙ swept-run-at (Strike a c) cs xs i n),
+     (λ i n s. ap (λ ys. take i xs ++ ys) (styled-swept cs (drop i xs) n s) ∙ swept-run-at (Style s) cs xs i n))
 
 -- whether a mark is of a change of author a
 pub of-none : (cs : List Change) (m a : ℕ) → m ≡ 0 → false ≡ eqb (author-of cs m) (suc a)

@@ -53,11 +53,11 @@ abbrev pub left-of : Option code.Cell → List Cell
 left-of None = []
 left-of (Some x) = cell-of x ∷ []
 
--- what the model says of the four is a sweep of all cells, or of the first n
+-- what the model says of the four is a sweep, of all cells or of n cells from place i on
 abbrev pub One-meaning : Type 0
 One-meaning =
     (cs : List Change) (xs : List Cell)
     → ((c : ℕ) → accept xs c ≡ swept (Accept c) cs xs)
         × ((c : ℕ) → reject xs c ≡ swept (Reject c) cs xs)
-        × ((n a c : ℕ) → strike xs n cs a c ≡ swept-run (Strike a c) cs xs 0 n)
-        × ((n s : ℕ) → styled xs n s ≡ swept-run (Style s) cs xs 0 n)
+        × ((i n a c : ℕ) → take i xs ++ strike (drop i xs) n cs a c ≡ swept-run (Strike a c) cs xs i n)
+        × ((i n s : ℕ) → take i xs ++ styled (drop i xs) n s ≡ swept-run (Style s) cs xs i n)

@@ -1,15 +1,16 @@
 // Strike, accept, reject and style over the cells of a store, said once: each is a sweep, which goes over cells in order, drops some and changes others.
 ghost use Prim.Native.Nat.{ℕ, suc, _+_, _-_, _*_, _<_, _≤_};
 ghost use Rattle.changes.specs.Row.{changes-of};
-ghost use Rattle.model.specs.Paper.{author-of};
+ghost use Rattle.model.specs.Paper.{author-of, touched as touches};
 ghost use Rattle.model.specs.Values.{cell-of};
 ghost use Rattle.pieces.specs.Edits.{Changed, Filled};
-ghost use Rattle.pieces.specs.Store.{Order, Store, piece, used};
+ghost use Rattle.pieces.specs.Store.{cells-of, Edited, Order, Store, piece, used};
 ghost use Rattle.slots.specs.Cells.{Kept, cellAt, cellsAt};
 ghost use Rattle.sweep.specs.Sweep.{fate as fate-of, left-of, One-meaning, swept, swept-run, Writable};
 ghost use lib.Dec.{eqb};
 ghost use lib.ListN.{drop, length, take};
 ghost use mathlib.Core.List.{_++_};
+ghost use mathlib.Core.Bool.{_||_};
 ghost use mathlib.Core.Path.{_≡_};
 use model::Cell;
 
@@ -159,4 +160,70 @@ fn sweep_piece(c: &mut [u32], p: &mut [u32], s: usize, k: usize, o: usize, n: us
     let has = pieces::used(p, k) - n + left;
     pieces::resize(p, k, has);
     left
+}
+
+// Sweeps the `n` cells of the text from `place` on.
+pub fn sweep_run(c: &mut [u32], p: &mut [u32], s: usize, place: usize, n: usize, action: Action, changes: &[u32], row: usize)
+    requires store { ⌜ Store (now c) (now p) s ⌝ }
+    requires within { ⌜ place + n ≤ length (cells-of (now c) (now p) s) ⌝ }
+    requires row { ⌜ 2 * row ≤ length (now changes) ⌝ }
+    requires mark { ⌜ Writable action ⌝ }
+    ensures { λ _. ⌜ Edited (now (c .entry)) (now (p .entry)) (now (c .exit)) (now (p .exit)) s (swept-run action (changes-of (now (changes .entry)) row) (cells-of (now (c .entry)) (now (p .entry)) s) place n) ⌝ }
+{
+    let mut at = place;
+    let mut left = n;
+    while left > 0 {
+        let spot = pieces::locate(p, s, at);
+        let has = pieces::used(p, spot.piece) - spot.offset;
+        let m = left.min(has);
+        at += sweep_piece(c, p, s, spot.piece, spot.offset, m, action, changes, row);
+        left -= m;
+    }
+}
+
+// Sweeps all cells of the text.
+pub fn sweep_all(c: &mut [u32], p: &mut [u32], s: usize, action: Action, changes: &[u32], row: usize)
+    requires store { ⌜ Store (now c) (now p) s ⌝ }
+    requires row { ⌜ 2 * row ≤ length (now changes) ⌝ }
+    requires mark { ⌜ Writable action ⌝ }
+    ensures { λ _. ⌜ Edited (now (c .entry)) (now (p .entry)) (now (c .exit)) (now (p .exit)) s (swept action (changes-of (now (changes .entry)) row) (cells-of (now (c .entry)) (now (p .entry)) s)) ⌝ }
+{
+    for k in 0..s {
+        let has = pieces::used(p, k);
+        sweep_piece(c, p, s, k, 0, has, action, changes, row);
+    }
+}
+
+// Whether a cell has the mark of the change.
+fn is_touched(cell: Cell, change: u32) -> bool
+    ensures { λ r. ⌜ r ≡ (eqb (cell .«put_in») (suc change) || eqb (cell .struck) (suc change)) ⌝ }
+{
+    is_mark(cell.put_in, change) || is_mark(cell.struck, change)
+}
+
+// How many of the `n` cells from number `at` on have the mark of the change.
+fn touched_cells(c: &[u32], at: usize, n: usize, change: u32) -> usize
+    requires { ⌜ 4 * (at + n) ≤ length (now c) ⌝ }
+    ensures count { λ r. ⌜ r ≡ touches (cellsAt (now (c .entry)) at n) change ⌝ }
+    ensures few { λ r. ⌜ r ≤ n ⌝ }
+{
+    let mut count = 0;
+    for i in 0..n {
+        if is_touched(slots::read(c, at + i), change) {
+            count += 1;
+        }
+    }
+    count
+}
+
+// How many cells have the mark of the change.
+pub fn touched(c: &[u32], p: &[u32], s: usize, change: u32) -> u32
+    requires { ⌜ Store (now c) (now p) s ⌝ }
+    ensures { λ r. ⌜ r ≡ touches (cells-of (now (c .entry)) (now (p .entry)) s) change ⌝ }
+{
+    let mut count = 0;
+    for k in 0..s {
+        count += touched_cells(c, pieces::number_of(p, s, k, 0), pieces::used(p, k), change);
+    }
+    count as u32
 }
