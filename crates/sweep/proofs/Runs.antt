@@ -44,7 +44,7 @@ module _ (a : Action) (cs : List Change) where
       let f = length-append (take i t) ys in
       let g = length-take-le i t (omega arith) in
       let n : length (take i t ++ ys) ≡ i + r = omega arith in
-      let as = append-assoc (take i t) ys rest in
+      let a0 = append-assoc (take i t) ys rest in
       let tk = take-at (take i t ++ ys) rest (i + r) n in
       let dr = drop-at (take i t ++ ys) rest (i + r) n in
       let d1 = drop-drop (left - m) (i + r) (swept-run a cs t i m) in
@@ -57,6 +57,12 @@ module _ (a : Action) (cs : List Change) where
       let a1 = append-assoc (take i t) ys (zs ++ drop (i + left) t) in
       let a2 = append-assoc ys zs (drop (i + left) t) in
       cc
+
+-- there are not many cells
+pub before-small : (p : List ℕ) (s : ℕ) → Order p s → (k : ℕ) → k ≤ s → before p k ≤ 1024 * k
+unfolding before
+before-small p s o zero l = omega arith
+before-small p s o (suc k) l = omega (arith, before-small p s o k (omega arith), o .small k (omega arith))
 
 -- m cells of the text that stand in piece k
 pub cells-within : (c p : List ℕ) (s k o m : ℕ) → k < s → o + m ≤ used p k → take m (drop (before p k + o) (cells-of c p s)) ≡ take m (drop o (piece c p k))

@@ -155,6 +155,7 @@ fn sweep_piece(c: &mut [u32], p: &mut [u32], s: usize, k: usize, o: usize, n: us
     ensures changed { λ _. ⌜ Changed (now (c .entry)) (now (p .entry)) (now (c .exit)) (now (p .exit)) s k (swept-run action (changes-of (now (changes .entry)) row) (piece (now (c .entry)) (now (p .entry)) k) o n) ⌝ }
     ensures store { λ _. ⌜ Store (now (c .exit)) (now (p .exit)) s ⌝ }
     ensures left { λ r. ⌜ r ≡ length (swept action (changes-of (now (changes .entry)) row) (take n (drop o (piece (now (c .entry)) (now (p .entry)) k)))) ⌝ }
+    ensures few { λ r. ⌜ r ≤ n ⌝ }
 {
     let left = sweep_slot(c, p, s, k, o, n, action, changes, row);
     let has = pieces::used(p, k) - n + left;

@@ -20,4 +20,5 @@ returns c =
     record {
         changed = h;
         store = store-after (c .args .c .now) (c .args .p .now) (c .sweep-slot-left .last .c) (c .resize .last .p) (c .args .s) (c .pre .store) (h .frame) (h .order) (c .resize .ensures .sums);
-        left = left }
+        left = left;
+        few = few }
