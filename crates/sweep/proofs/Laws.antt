@@ -68,11 +68,12 @@ pub swept-run-at : (a : Action) (cs : List Change) (xs : List Cell) (i n : ℕ) 
 swept-run-at a cs xs i n = rw drop-drop
 
 pub one-meaning : One-meaning
-one-meaning cs xs =
-    (accept-swept cs xs,
-     reject-swept cs xs,
-     (λ i n a c. ap (λ ys. take i xs ++ ys) (strike-swept cs (drop i xs) n a c) ∙ swept-run-at (Strike a c) cs xs i n),
-     (λ i n s. ap (λ ys. take i xs ++ ys) (styled-swept cs (drop i xs) n s) ∙ swept-run-at (Style s) cs xs i n))
+one-meaning cs xs = (
+  accept-swept cs xs,
+  reject-swept cs xs,
+  (λ i n a c. ap (λ ys. take i xs ++ ys) (strike-swept cs (drop i xs) n a c) ∙ swept-run-at (Strike a c) cs xs i n),
+  (λ i n s. ap (λ ys. take i xs ++ ys) (styled-swept cs (drop i xs) n s) ∙ swept-run-at (Style s) cs xs i n),
+)
 
 -- whether a mark is of a change of author a
 pub of-none : (cs : List Change) (m a : ℕ) → m ≡ 0 → false ≡ eqb (author-of cs m) (suc a)

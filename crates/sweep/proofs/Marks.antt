@@ -26,7 +26,7 @@ pub touched-more : (w : List ℕ) (at i c : ℕ) → touched (cellsAt w at (i + 
 unfolding touched
 touched-more w at i c =
     ap (λ xs. touched xs c) (cells-more w at i) ∙ touched-append (cellsAt w at i) (cellAt w (at + i) ∷ []) c
-        ∙ ap (λ n. touched (cellsAt w at i) c + n) (add-zero (pick (mark-in (cellAt w (at + i)) c) 1 0))
+    ∙ ap (λ n. touched (cellsAt w at i) c + n) (add-zero (pick (mark-in (cellAt w (at + i)) c) 1 0))
 
 pub touched-with : (w : List ℕ) (at i c n : ℕ) → mark-in (cellAt w (at + i)) c ≡ true → n ≡ touched (cellsAt w at i) c → n + 1 ≡ touched (cellsAt w at (i + 1)) c
 touched-with w at i c n e h = let m = touched-more w at i c in let o = ap (λ t. pick {A = ℕ} t 1 0) e in omega arith

@@ -37,9 +37,10 @@ pub swept-step : (c d e : List ℕ) (at i n m : ℕ) (a : Action) (cs : List Cha
 swept-step c d e at i n m a cs l le f h g k =
     let one = cells-more c at i in
     let same = kept-cell-above c d at i h (at + i) (omega arith) in
-    let more = swept-more a cs (cellsAt c at i) (cellAt c (at + i)) in
-    (cc,
-     kept-twice c d e at (i + 1) (kept-wider c d at i h at (i + 1) (omega arith) (omega arith)) (kept-wider d e at m k at (i + 1) (omega arith) (omega arith)))
+    let more = swept-more a cs (cellsAt c at i) (cellAt c (at + i)) in (
+      cc,
+      kept-twice c d e at (i + 1) (kept-wider c d at i h at (i + 1) (omega arith) (omega arith)) (kept-wider d e at m k at (i + 1) (omega arith) (omega arith)),
+    )
 
 -- n cells of piece k swept from cell o on: r are left, and those behind them have moved down
 module _ (c d e p : List ℕ) (k o n at r : ℕ) (a : Action) (cs : List Change) (l : o + n ≤ used p k) (m : used p k ≤ 1024) (few : r ≤ n)
@@ -71,4 +72,4 @@ module _ (c d e p : List ℕ) (k o n at r : ℕ) (a : Action) (cs : List Change)
       let g : b + (o + n) ≡ at + n = omega arith in
       let part = swept-part in
       filled c e p k (o + (r + (u - (o + n)))) (swept-run a cs (cellsAt c b u) o n) (cc)
-          (kept-twice c d e b 1024 (kept-wider c d at n h b 1024 (omega arith) (omega arith)) (kept-wider d e (at + r) (u - (o + n)) i b 1024 (omega arith) (omega arith)))
+      (kept-twice c d e b 1024 (kept-wider c d at n h b 1024 (omega arith) (omega arith)) (kept-wider d e (at + r) (u - (o + n)) i b 1024 (omega arith) (omega arith)))

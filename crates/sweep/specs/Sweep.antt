@@ -58,6 +58,6 @@ abbrev pub One-meaning : Type 0
 One-meaning =
     (cs : List Change) (xs : List Cell)
     → ((c : ℕ) → accept xs c ≡ swept (Accept c) cs xs)
-        × ((c : ℕ) → reject xs c ≡ swept (Reject c) cs xs)
-        × ((i n a c : ℕ) → take i xs ++ strike (drop i xs) n cs a c ≡ swept-run (Strike a c) cs xs i n)
-        × ((i n s : ℕ) → take i xs ++ styled (drop i xs) n s ≡ swept-run (Style s) cs xs i n)
+    × ((c : ℕ) → reject xs c ≡ swept (Reject c) cs xs)
+    × ((i n a c : ℕ) → take i xs ++ strike (drop i xs) n cs a c ≡ swept-run (Strike a c) cs xs i n)
+    × ((i n s : ℕ) → take i xs ++ styled (drop i xs) n s ≡ swept-run (Style s) cs xs i n)

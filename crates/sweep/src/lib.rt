@@ -1,12 +1,12 @@
 // Strike, accept, reject and style over the cells of a store, said once: each is a sweep, which goes over cells in order, drops some and changes others.
 ghost use Prim.Native.Nat.{ℕ, suc, _+_, _-_, _*_, _<_, _≤_};
 ghost use Rattle.changes.specs.Row.{changes-of};
-ghost use Rattle.model.specs.Paper.{author-of, touched as touches};
+ghost use Rattle.model.specs.Paper.{author-of, pick, touched as touches};
 ghost use Rattle.model.specs.Values.{cell-of};
 ghost use Rattle.pieces.specs.Edits.{Changed, Filled};
 ghost use Rattle.pieces.specs.Store.{cells-of, Edited, Order, Store, piece, used};
 ghost use Rattle.slots.specs.Cells.{Kept, cellAt, cellsAt};
-ghost use Rattle.sweep.specs.Sweep.{fate as fate-of, left-of, One-meaning, swept, swept-run, Writable};
+ghost use Rattle.sweep.specs.Sweep.{changed as afterwards, fate as fate-of, goes as is-gone, left-of, One-meaning, swept, swept-run, Writable};
 ghost use lib.Dec.{eqb};
 ghost use lib.ListN.{drop, length, take};
 ghost use mathlib.Core.List.{_++_};
@@ -53,47 +53,75 @@ fn is_of(mark: u32, author: u32, changes: &[u32], row: usize) -> bool
     }
 }
 
+// No mark if the mark is that of the change.
+fn cleared(mark: u32, change: u32) -> u32
+    ensures { λ r. ⌜ r ≡ pick (eqb mark (suc change)) 0 mark ⌝ }
+{
+    if is_mark(mark, change) { 0 } else { mark }
+}
+
+// Whether a cell goes.
+fn goes(cell: Cell, action: Action, changes: &[u32], row: usize) -> bool
+    requires { ⌜ 2 * row ≤ length (now changes) ⌝ }
+    ensures { λ r. ⌜ r ≡ is-gone action (changes-of (now (changes .entry)) row) (cell-of cell) ⌝ }
+{
+    match action {
+        Action::Strike { author, .. } => is_of(cell.put_in, author, changes, row),
+        Action::Accept { change } => is_mark(cell.struck, change),
+        Action::Reject { change } => is_mark(cell.put_in, change),
+        Action::Style { .. } => false,
+    }
+}
+
+// What a cell is afterwards if it stays.
+fn changed(cell: Cell, action: Action) -> Cell
+    requires { ⌜ Writable action ⌝ }
+    ensures { λ r. ⌜ cell-of r ≡ afterwards action (cell-of cell) ⌝ }
+{
+    match action {
+        Action::Strike { change, .. } => {
+            let struck = if cell.struck == 0 {
+                change + 1
+            } else {
+                cell.struck
+            };
+            Cell { struck, ..cell }
+        }
+        Action::Accept { change } => {
+            let put_in = cleared(cell.put_in, change);
+            Cell { put_in, ..cell }
+        }
+        Action::Reject { change } => {
+            let struck = cleared(cell.struck, change);
+            Cell { struck, ..cell }
+        }
+        Action::Style { style } => Cell { style, ..cell },
+    }
+}
+
 // What becomes of a cell: it goes, or it stays, changed or not.
 fn fate(cell: Cell, action: Action, changes: &[u32], row: usize) -> Option<Cell>
     requires row { ⌜ 2 * row ≤ length (now changes) ⌝ }
     requires mark { ⌜ Writable action ⌝ }
     ensures { λ r. ⌜ left-of r ≡ fate-of action (changes-of (now (changes .entry)) row) (cell-of cell) ⌝ }
 {
-    match action {
-        Action::Strike { author, change } => {
-            if is_of(cell.put_in, author, changes, row) {
-                None
-            } else {
-                let struck = if cell.struck == 0 {
-                    change + 1
-                } else {
-                    cell.struck
-                };
-                Some(Cell { struck, ..cell })
-            }
-        }
-        Action::Accept { change } => {
-            if is_mark(cell.struck, change) {
-                None
-            } else {
-                let put_in = if is_mark(cell.put_in, change) { 0 } else { cell.put_in };
-                Some(Cell { put_in, ..cell })
-            }
-        }
-        Action::Reject { change } => {
-            if is_mark(cell.put_in, change) {
-                None
-            } else {
-                let struck = if is_mark(cell.struck, change) { 0 } else { cell.struck };
-                Some(Cell { struck, ..cell })
-            }
-        }
-        Action::Style { style } => Some(Cell { style, ..cell }),
+    if goes(cell, action, changes, row) {
+        None
+    } else {
+        Some(changed(cell, action))
     }
 }
 
 // Writes what becomes of cell `i` behind the first `stay` cells, all counted from number `at` on. Returns how many there are now.
-fn sweep_cell(c: &mut [u32], at: usize, i: usize, stay: usize, action: Action, changes: &[u32], row: usize) -> usize
+fn sweep_cell(
+    c: &mut [u32],
+    at: usize,
+    i: usize,
+    stay: usize,
+    action: Action,
+    changes: &[u32],
+    row: usize,
+) -> usize
     requires room { ⌜ 4 * (at + i) + 4 ≤ length (now c) ⌝ }
     requires behind { ⌜ stay ≤ i ⌝ }
     requires row { ⌜ 2 * row ≤ length (now changes) ⌝ }
@@ -112,7 +140,14 @@ fn sweep_cell(c: &mut [u32], at: usize, i: usize, stay: usize, action: Action, c
 }
 
 // Sweeps the `n` cells from number `at` on. What is left of them stands at the front. Returns how many are left.
-fn sweep_cells(c: &mut [u32], at: usize, n: usize, action: Action, changes: &[u32], row: usize) -> usize
+fn sweep_cells(
+    c: &mut [u32],
+    at: usize,
+    n: usize,
+    action: Action,
+    changes: &[u32],
+    row: usize,
+) -> usize
     requires room { ⌜ 4 * (at + n) ≤ length (now c) ⌝ }
     requires row { ⌜ 2 * row ≤ length (now changes) ⌝ }
     requires mark { ⌜ Writable action ⌝ }
@@ -128,7 +163,17 @@ fn sweep_cells(c: &mut [u32], at: usize, n: usize, action: Action, changes: &[u3
 }
 
 // Sweeps `n` cells in the slot of piece `k`, from its cell `o` on, and moves those behind them down. Returns how many of the `n` are left.
-fn sweep_slot(c: &mut [u32], p: &[u32], s: usize, k: usize, o: usize, n: usize, action: Action, changes: &[u32], row: usize) -> usize
+fn sweep_slot(
+    c: &mut [u32],
+    p: &[u32],
+    s: usize,
+    k: usize,
+    o: usize,
+    n: usize,
+    action: Action,
+    changes: &[u32],
+    row: usize,
+) -> usize
     requires order { ⌜ Order (now p) s ⌝ }
     requires room { ⌜ 4096 * s ≤ length (now c) ⌝ }
     requires here { ⌜ k < s ⌝ }
@@ -146,7 +191,17 @@ fn sweep_slot(c: &mut [u32], p: &[u32], s: usize, k: usize, o: usize, n: usize, 
 }
 
 // Sweeps `n` cells of piece `k`, from its cell `o` on. Returns how many of them are left.
-fn sweep_piece(c: &mut [u32], p: &mut [u32], s: usize, k: usize, o: usize, n: usize, action: Action, changes: &[u32], row: usize) -> usize
+fn sweep_piece(
+    c: &mut [u32],
+    p: &mut [u32],
+    s: usize,
+    k: usize,
+    o: usize,
+    n: usize,
+    action: Action,
+    changes: &[u32],
+    row: usize,
+) -> usize
     requires store { ⌜ Store (now c) (now p) s ⌝ }
     requires here { ⌜ k < s ⌝ }
     requires within { ⌜ o + n ≤ used (now p) k ⌝ }
@@ -164,7 +219,16 @@ fn sweep_piece(c: &mut [u32], p: &mut [u32], s: usize, k: usize, o: usize, n: us
 }
 
 // Sweeps the `n` cells of the text from `place` on.
-pub fn sweep_run(c: &mut [u32], p: &mut [u32], s: usize, place: usize, n: usize, action: Action, changes: &[u32], row: usize)
+pub fn sweep_run(
+    c: &mut [u32],
+    p: &mut [u32],
+    s: usize,
+    place: usize,
+    n: usize,
+    action: Action,
+    changes: &[u32],
+    row: usize,
+)
     requires store { ⌜ Store (now c) (now p) s ⌝ }
     requires within { ⌜ place + n ≤ length (cells-of (now c) (now p) s) ⌝ }
     requires row { ⌜ 2 * row ≤ length (now changes) ⌝ }
@@ -183,7 +247,14 @@ pub fn sweep_run(c: &mut [u32], p: &mut [u32], s: usize, place: usize, n: usize,
 }
 
 // Sweeps all cells of the text.
-pub fn sweep_all(c: &mut [u32], p: &mut [u32], s: usize, action: Action, changes: &[u32], row: usize)
+pub fn sweep_all(
+    c: &mut [u32],
+    p: &mut [u32],
+    s: usize,
+    action: Action,
+    changes: &[u32],
+    row: usize,
+)
     requires store { ⌜ Store (now c) (now p) s ⌝ }
     requires row { ⌜ 2 * row ≤ length (now changes) ⌝ }
     requires mark { ⌜ Writable action ⌝ }

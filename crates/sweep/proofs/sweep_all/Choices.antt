@@ -8,5 +8,5 @@ use Rattle.sweep.proofs.sweep_all.Given as given
 abbrev pub Inv-loop-k : given.InvT-loop-k
 Inv-loop-k l =
     Store (l .c) (l .p) (l .s) × Frame (l .entry .c) (l .entry .p) (l .c) (l .p) (l .s)
-        × ((j : ℕ) → j < l .k → piece (l .c) (l .p) j ≡ swept (l .action) (changes-of (l .changes) (l .row)) (piece (l .entry .c) (l .entry .p) j))
-        × ((j : ℕ) → l .k ≤ j → j < l .s → piece (l .c) (l .p) j ≡ piece (l .entry .c) (l .entry .p) j)
+    × ((j : ℕ) → j < l .k → piece (l .c) (l .p) j ≡ swept (l .action) (changes-of (l .changes) (l .row)) (piece (l .entry .c) (l .entry .p) j))
+    × ((j : ℕ) → l .k ≤ j → j < l .s → piece (l .c) (l .p) j ≡ piece (l .entry .c) (l .entry .p) j)

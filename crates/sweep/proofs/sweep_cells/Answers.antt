@@ -16,5 +16,5 @@ loop-i-again c =
     let inv = c .loop-i .inv in
     let e = c .sweep-cell-stay .ensures in
     let s = swept-step (c .args .c .now) (c .loop-i .c) (c .sweep-cell-stay .last .c) (c .args .at) (c .loop-i .i) (c .loop-i .stay) (c .sweep-cell-stay .result)
-          (c .args .action) (changes-of (c .args .changes .now) (c .args .row)) (inv .0) (e .behind) (inv .1) (inv .2) (e .cells) (e .kept) in
+    (c .args .action) (changes-of (c .args .changes .now) (c .args .row)) (inv .0) (e .behind) (inv .1) (inv .2) (e .cells) (e .kept) in
     (e .behind, s .0, s .1)

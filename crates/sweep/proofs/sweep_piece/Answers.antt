@@ -16,9 +16,10 @@ returns c =
     let left = e .left in
     let ys = swept (c .args .action) (changes-of (c .args .changes .now) (c .args .row)) (take (c .args .n) (drop (c .args .o) (piece (c .args .c .now) (c .args .p .now) (c .args .k)))) in
     let h = replaced-here (c .args .c .now) (c .args .p .now) (c .sweep-slot-left .last .c) (c .resize .last .p) (c .args .s) (c .args .k) (c .args .o) (c .args .n) _ ys
-          order (c .pre .here) (c .pre .within) (omega arith) (omega arith) (e .filled) (c .resize .ensures .resized) in
+    order (c .pre .here) (c .pre .within) (omega arith) (omega arith) (e .filled) (c .resize .ensures .resized) in
     record {
-        changed = h;
-        store = store-after (c .args .c .now) (c .args .p .now) (c .sweep-slot-left .last .c) (c .resize .last .p) (c .args .s) (c .pre .store) (h .frame) (h .order) (c .resize .ensures .sums);
-        left = left;
-        few = few }
+      changed = h;
+      store = store-after (c .args .c .now) (c .args .p .now) (c .sweep-slot-left .last .c) (c .resize .last .p) (c .args .s) (c .pre .store) (h .frame) (h .order) (c .resize .ensures .sums);
+      left = left;
+      few = few;
+    }

@@ -37,11 +37,12 @@ loop-left-again c =
     let m = c .min-m .result in
     let fits : o + m ≤ used (c .loop-left .p) k = omega arith in
     let s = run-step (c .loop-left .c) (c .loop-left .p) (c .sweep-piece-at .last .c) (c .sweep-piece-at .last .p) (c .args .s) (c .loop-left .at) k o m (c .loop-left .left)
-          (c .sweep-piece-at .result) (c .args .action) (changes-of (c .args .changes .now) (c .args .row)) (c .locate-spot .ensures) (omega arith) fits (inv .2) (e .changed) (e .left) in
-    (e .store,
-     frame-both (c .args .c .now) (c .args .p .now) (c .loop-left .c) (c .loop-left .p) (c .sweep-piece-at .last .c) (c .sweep-piece-at .last .p) (c .args .s) (inv .1) (e .changed .frame),
-     s .0,
-     s .1 ∙ inv .3)
+    (c .sweep-piece-at .result) (c .args .action) (changes-of (c .args .changes .now) (c .args .row)) (c .locate-spot .ensures) (omega arith) fits (inv .2) (e .changed) (e .left) in (
+      e .store,
+      frame-both (c .args .c .now) (c .args .p .now) (c .loop-left .c) (c .loop-left .p) (c .sweep-piece-at .last .c) (c .sweep-piece-at .last .p) (c .args .s) (inv .1) (e .changed .frame),
+      s .0,
+      s .1 ∙ inv .3,
+    )
 
 pub returns : need.returns
 returns c =

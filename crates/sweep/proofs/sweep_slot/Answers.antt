@@ -9,9 +9,10 @@ returns c =
     let e = c .sweep-cells-left .ensures in
     let cs = changes-of (c .args .changes .now) (c .args .row) in
     record {
-        filled = swept-here (c .args .c .now) (c .sweep-cells-left .last .c) (c .copy .last .c) (c .args .p .now) (c .args .k) (c .args .o) (c .args .n) (c .number-of-at .result)
-            (c .sweep-cells-left .result) (c .args .action) cs (c .pre .within) small (e .few) (c .number-of-at .ensures) (e .cells) (e .kept)
-            (rw (c .used .ensures) at (c .copy .ensures .copied)) (rw (c .used .ensures) at (c .copy .ensures .kept));
-        left = left-here (c .args .c .now) (c .sweep-cells-left .last .c) (c .copy .last .c) (c .args .p .now) (c .args .k) (c .args .o) (c .args .n) (c .number-of-at .result)
-            (c .sweep-cells-left .result) (c .args .action) cs (c .pre .within) small (e .few) (c .number-of-at .ensures) (e .cells) (e .kept);
-        few = e .few }
+      filled = swept-here (c .args .c .now) (c .sweep-cells-left .last .c) (c .copy .last .c) (c .args .p .now) (c .args .k) (c .args .o) (c .args .n) (c .number-of-at .result)
+          (c .sweep-cells-left .result) (c .args .action) cs (c .pre .within) small (e .few) (c .number-of-at .ensures) (e .cells) (e .kept)
+          (rw (c .used .ensures) at (c .copy .ensures .copied)) (rw (c .used .ensures) at (c .copy .ensures .kept));
+      left = left-here (c .args .c .now) (c .sweep-cells-left .last .c) (c .copy .last .c) (c .args .p .now) (c .args .k) (c .args .o) (c .args .n) (c .number-of-at .result)
+          (c .sweep-cells-left .result) (c .args .action) cs (c .pre .within) small (e .few) (c .number-of-at .ensures) (e .cells) (e .kept);
+      few = e .few;
+    }

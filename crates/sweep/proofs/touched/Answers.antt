@@ -14,7 +14,8 @@ loop-k-again c =
     let inv = c .loop-k .inv in
     let e = c .touched-cells-count .ensures in
     let few = e .few in
-    let small = c .pre .table .order .small (c .loop-k .k) (c .loop-k-test .taken) in
-    (touched-next (c .args .c .now) (c .args .p .now) (c .loop-k .k) (c .args .change) (c .loop-k .count) (c .number-of .result) (c .used .result) (c .touched-cells-count .result)
-         (c .number-of .ensures) (c .used .ensures) (e .count) (inv .0),
-     omega arith)
+    let small = c .pre .table .order .small (c .loop-k .k) (c .loop-k-test .taken) in (
+      touched-next (c .args .c .now) (c .args .p .now) (c .loop-k .k) (c .args .change) (c .loop-k .count) (c .number-of .result) (c .used .result) (c .touched-cells-count .result)
+          (c .number-of .ensures) (c .used .ensures) (e .count) (inv .0),
+      omega arith,
+    )

@@ -16,7 +16,8 @@ loop-i-again c =
     let inv = c .loop-i .inv in
     let test = sym (ap (λ x. mark-in x (c .args .change)) (c .read .ensures)) ∙ sym (c .is-touched .ensures) in
     elim (c .if-is-touched .came) [
-      then-is-touched w ↦
-        (w .count-is ∙ touched-with (c .args .c .now) (c .args .at) (c .loop-i .i) (c .args .change) (c .loop-i .count) (test ∙ w .if-is-touched .taken) (inv .0), omega (arith, w .count-is))
-    | else-is-touched w ↦
-        (w .count-is ∙ touched-without (c .args .c .now) (c .args .at) (c .loop-i .i) (c .args .change) (c .loop-i .count) (test ∙ w .if-is-touched .left) (inv .0), omega (arith, w .count-is)) ]
+      | then-is-touched w ↦
+          (w .count-is ∙ touched-with (c .args .c .now) (c .args .at) (c .loop-i .i) (c .args .change) (c .loop-i .count) (test ∙ w .if-is-touched .taken) (inv .0), omega (arith, w .count-is))
+      | else-is-touched w ↦
+          (w .count-is ∙ touched-without (c .args .c .now) (c .args .at) (c .loop-i .i) (c .args .change) (c .loop-i .count) (test ∙ w .if-is-touched .left) (inv .0), omega (arith, w .count-is))
+    ]
