@@ -21,10 +21,12 @@ sweep-piece-at-requires c κs =
 
 pub add-at : need.add-at
 add-at c =
-    let inv = c .loop-left .inv in
+    let store = c .loop-left .inv .0 in
     let few = c .sweep-piece-at .ensures .few in
-    let small = before-small (c .loop-left .p) (c .args .s) (inv .0 .table .order) (c .args .s) (omega arith) in
-    let most = inv .0 .table .order .most in
+    let here = c .locate-spot .ensures .here in
+    let fits = store .table .order .small (c .locate-spot .result .piece) here in
+    let small = before-small (c .loop-left .p) (c .args .s) (store .table .order) (c .args .s) (omega arith) in
+    let most = store .table .order .most in
     omega arith
 
 pub loop-left-again : need.loop-left-again
