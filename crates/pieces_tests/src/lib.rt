@@ -81,6 +81,15 @@ mod tests {
         Ok(())
     }
 
+    // All letters in turn.
+    fn spell(letters: &mut [u8]) {
+        let mut next = 32;
+        for letter in letters.iter_mut() {
+            *letter = next;
+            next = if next < 126 { next + 1 } else { 32 };
+        }
+    }
+
     // Many edits, one after the other.
     fn run(c: &mut [u32], p: &mut [u32], row: &mut [Cell], letters: &[u8]) -> Result<(), Fail>
         requires store { ⌜ Store (now c) (now p) 5 ⌝ }
@@ -120,7 +129,8 @@ mod tests {
             struck: 0,
         };
         let mut row = [none; 3072];
-        let letters = [97; 300];
+        let mut letters = [0; 300];
+        spell(&mut letters);
         pieces::clear(&mut c, &mut p, SLOTS);
         run(&mut c, &mut p, &mut row, &letters)
     }
