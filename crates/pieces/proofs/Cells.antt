@@ -33,7 +33,7 @@ inserted c d e p k o n at ys l m w copied h written i =
     let tk = take-cells c a u o l in
     let dr = drop-cells c a u o l in
     filled c e p k (u + n) (replaced (cellsAt c a u) o 0 ys) (cc)
-        (kept-twice c d e a 1024 (kept-wider c d (at + n) (u - o) h a 1024 (omega arith) (omega arith)) (kept-wider d e at n i a 1024 (omega arith) (omega arith)))
+    (kept-twice c d e a 1024 (kept-wider c d (at + n) (u - o) h a 1024 (omega arith) (omega arith)) (kept-wider d e at n i a 1024 (omega arith) (omega arith)))
 
 -- n cells taken out from cell o on
 pub removed : (c d p : List ℕ) (k o n at : ℕ) → o + n ≤ used p k → used p k ≤ 1024 → at ≡ 1024 * slot p k + o

@@ -52,16 +52,23 @@ pub other-slot : (c d p : List ℕ) (s k j n : ℕ) → Order p s → Kept c d (
     → cellsAt d (1024 * slot p j) n ≡ cellsAt c (1024 * slot p j) n
 other-slot c d p s k j n o h l m ne le =
     elim (cases-order (slot p j) (slot p k)) [
-      inl e ↦ absurd (ne (o .apart j k m l e))
-    | inr w ↦ elim w [
-        inl b ↦ kept-cells-below c d (1024 * slot p k) 1024 h (1024 * slot p j) n (omega arith)
-      | inr a ↦ kept-cells-above c d (1024 * slot p k) 1024 h (1024 * slot p j) n (omega arith) ] ]
+      | inl e ↦ absurd (ne (o .apart j k m l e))
+      | inr w ↦ elim w [
+        | inl b ↦ kept-cells-below c d (1024 * slot p k) 1024 h (1024 * slot p j) n (omega arith)
+        | inr a ↦ kept-cells-above c d (1024 * slot p k) 1024 h (1024 * slot p j) n (omega arith)
+      ]
+    ]
 
 pub frame-cells : (c d p : List ℕ) (s k : ℕ) → Order p s → k < s → Kept c d (1024 * slot p k) 1024 → Frame c p d p s
 frame-cells c d p s k o l h =
     let i = o .inside k l in
-    record { cells-long = h .long; words-long = refl; cells-past = kept-drop c d (1024 * slot p k) 1024 h (4096 * s) (omega arith);
-        words-past = refl; spare = λ j a b. refl }
+    record {
+      cells-long = h .long;
+      words-long = refl;
+      cells-past = kept-drop c d (1024 * slot p k) 1024 h (4096 * s) (omega arith);
+      words-past = refl;
+      spare = λ j a b. refl;
+    }
 
 pub frame-words : (c p q : List ℕ) (s k n : ℕ) → Resized p q k n → Frame c p c q s
 frame-words c p q s k n h =
@@ -69,8 +76,13 @@ frame-words c p q s k n h =
 
 pub frame-both : (c p d q e r : List ℕ) (s : ℕ) → Frame c p d q s → Frame d q e r s → Frame c p e r s
 frame-both c p d q e r s f g =
-    record { cells-long = g .cells-long ∙ f .cells-long; words-long = g .words-long ∙ f .words-long; cells-past = g .cells-past ∙ f .cells-past;
-        words-past = g .words-past ∙ f .words-past; spare = λ j a b. g .spare j a b ∙ f .spare j a b }
+    record {
+      cells-long = g .cells-long ∙ f .cells-long;
+      words-long = g .words-long ∙ f .words-long;
+      cells-past = g .cells-past ∙ f .cells-past;
+      words-past = g .words-past ∙ f .words-past;
+      spare = λ j a b. g .spare j a b ∙ f .spare j a b;
+    }
 
 pub frame-none : (c p : List ℕ) (s : ℕ) → Frame c p c p s
 frame-none c p s = record { cells-long = refl; words-long = refl; cells-past = refl; words-past = refl; spare = λ j a b. refl }
@@ -78,21 +90,27 @@ frame-none c p s = record { cells-long = refl; words-long = refl; cells-past = r
 pub resized-order : (p q : List ℕ) (s k n : ℕ) → Order p s → Resized p q k n → k < s → n ≤ 1024 → Order q s
 resized-order p q s k n o h l m =
     let most = o .most in
-    record { some = o .some; most = most; words = let e = h .long in let w = o .words in omega arith;
-        inside = λ j a. rw (h .order j (omega arith)) (o .inside j a);
-        apart = λ i j a b e. o .apart i j a b (sym (h .order i (omega arith)) ∙ e ∙ h .order j (omega arith));
-        small = λ j a. elim (cases-eq j k) [ inl e ↦ rw (e, h .here) m | inr ne ↦ rw (h .others j (omega arith) ne) (o .small j a) ];
-        idle = λ j a b. h .others j b (omega arith) ∙ o .idle j a b }
+    record {
+      some = o .some;
+      most = most;
+      words = let e = h .long in let w = o .words in omega arith;
+      inside = λ j a. rw (h .order j (omega arith)) (o .inside j a);
+      apart = λ i j a b e. o .apart i j a b (sym (h .order i (omega arith)) ∙ e ∙ h .order j (omega arith));
+      small = λ j a. elim (cases-eq j k) [ inl e ↦ rw (e, h .here) m | inr ne ↦ rw (h .others j (omega arith) ne) (o .small j a) ];
+      idle = λ j a b. h .others j b (omega arith) ∙ o .idle j a b;
+    }
 
 pub changed : (c p d q : List ℕ) (s k : ℕ) (xs : List Cell) → Order p s → k < s → Filled c d p k xs → Resized p q k (length xs) → length xs ≤ 1024
     → Changed c p d q s k xs
 unfolding piece
 changed c p d q s k xs o l f h m =
     let most = o .most in
-    record { order = resized-order p q s k (length xs) o h l m;
-        frame = frame-both c p d p d q s (frame-cells c d p s k o l (f .kept)) (frame-words d p q s k (length xs) h);
-        here = rw (h .order k (omega arith), h .here) (f .cells);
-        others = λ j a ne. rw (h .order j (omega arith), h .others j (omega arith) ne) (other-slot c d p s k j (used p j) o (f .kept) l a ne (o .small j a)) }
+    record {
+      order = resized-order p q s k (length xs) o h l m;
+      frame = frame-both c p d p d q s (frame-cells c d p s k o l (f .kept)) (frame-words d p q s k (length xs) h);
+      here = rw (h .order k (omega arith), h .here) (f .cells);
+      others = λ j a ne. rw (h .order j (omega arith), h .others j (omega arith) ne) (other-slot c d p s k j (used p j) o (f .kept) l a ne (o .small j a));
+    }
 
 pub length-replaced : (xs : List Cell) (o n : ℕ) (ys : List Cell) → o + n ≤ length xs → length (replaced xs o n ys) ≡ length xs + length ys - n
 length-replaced xs o n ys l =
@@ -121,16 +139,19 @@ shifted c p d q e r s i j o n t v w a b ne l m et ev f h g k =
     let uj = length-piece c p j in
     let dj = length-drop o (piece c p j) in
     let len : t ≡ length (piece c p i ++ take n (drop o (piece c p j))) =
-          omega (arith, length-append (piece c p i) (take n (drop o (piece c p j))), length-take-le n (drop o (piece c p j)) (omega arith)) in
+    omega (arith, length-append (piece c p i) (take n (drop o (piece c p j))), length-take-le n (drop o (piece c p j)) (omega arith)) in
     let one = changed c p d q s i (piece c p i ++ take n (drop o (piece c p j))) w a f (rw len at h) (omega arith) in
     let j-same : piece d q j ≡ piece c p j = one .others j b (λ x. ne (sym x)) in
     let u-same = h .others j (omega arith) (λ x. ne (sym x)) in
     let small = w .small j b in
     let two = replaced-here d q e r s j o n v [] (one .order) b (omega arith) (omega arith) (omega arith) g k in
-    record { order = two .order; frame = frame-both c p d q e r s (one .frame) (two .frame);
-        target = two .others i a ne ∙ one .here;
-        source = two .here ∙ ap (λ xs. replaced xs o n []) j-same;
-        others = λ x y ni nj. two .others x y nj ∙ one .others x y ni }
+    record {
+      order = two .order;
+      frame = frame-both c p d q e r s (one .frame) (two .frame);
+      target = two .others i a ne ∙ one .here;
+      source = two .here ∙ ap (λ xs. replaced xs o n []) j-same;
+      others = λ x y ni nj. two .others x y nj ∙ one .others x y ni;
+    }
 
 -- the text after one piece has changed
 pub changed-text : (c p d q : List ℕ) (s k o n : ℕ) (ys : List Cell) → k < s → o + n ≤ used p k → Changed c p d q s k (replaced (piece c p k) o n ys)

@@ -37,24 +37,31 @@ module _ (p : List ℕ) (s : ℕ) (l : s ≤ 2048) (w : 6144 ≤ length p) where
   cleared-zero k h i =
       let n = length-replicate {A = ℕ} (6144 - s) 0 in
       getD-append-right (counting 0 s) (replicate (6144 - s) 0 ++ drop 6144 p) s k 0 (length-counting 0 s) h
-          ∙ getD-append-left (replicate (6144 - s) 0) (drop 6144 p) 0 (k - s) (omega arith)
-          ∙ getD-replicate (6144 - s) (k - s) 0 0 (omega arith)
+      ∙ getD-append-left (replicate (6144 - s) 0) (drop 6144 p) 0 (k - s) (omega arith)
+      ∙ getD-replicate (6144 - s) (k - s) 0 0 (omega arith)
 
   pub cleared-long : length (cleared-words p s) ≡ length p
   cleared-long = simp (length-append, length-counting, length-replicate, length-drop) (omega arith)
 
   pub cleared-table : 0 < s → Table (cleared-words p s) s
   cleared-table o = record {
-      order = record { some = o; most = l; words = let e = cleared-long in omega arith;
-          inside = λ k h. rw (cleared-order k h) h;
-          apart = λ j k h i e. sym (cleared-order j h) ∙ e ∙ cleared-order k i;
-          small = λ k h. rw (cleared-zero (4096 + k) (omega arith) (omega arith)) (omega arith);
-          idle = λ k h i. cleared-zero (4096 + k) (omega arith) (omega arith) };
-      sums = record { long = simp length-drop (let e = cleared-long in omega arith);
-          sums = λ i h j.
-              let a = leaf i (omega arith) in let b = leaf (2 * i) (omega arith) in let d = leaf (2 * i + 1) (omega arith) in
-              omega arith;
-          light = λ j h. let a = leaf (2048 + j) (omega arith) in omega arith } }
+    order = record {
+      some = o;
+      most = l;
+      words = let e = cleared-long in omega arith;
+      inside = λ k h. rw (cleared-order k h) h;
+      apart = λ j k h i e. sym (cleared-order j h) ∙ e ∙ cleared-order k i;
+      small = λ k h. rw (cleared-zero (4096 + k) (omega arith) (omega arith)) (omega arith);
+      idle = λ k h i. cleared-zero (4096 + k) (omega arith) (omega arith);
+    };
+    sums = record {
+      long = simp length-drop (let e = cleared-long in omega arith);
+      sums = λ i h j.
+          let a = leaf i (omega arith) in let b = leaf (2 * i) (omega arith) in let d = leaf (2 * i + 1) (omega arith) in
+          omega arith;
+      light = λ j h. let a = leaf (2048 + j) (omega arith) in omega arith;
+    };
+  }
     where
       leaf : (i : ℕ) → i < 4096 → getD (drop 2048 (cleared-words p s)) i 0 ≡ 0
       leaf i h = getD-drop 2048 (cleared-words p s) i 0 ∙ cleared-zero (2048 + i) (omega arith) (omega arith)

@@ -46,8 +46,8 @@ strung-rotated f g k s l below new last up =
     let a = strung-at g (k + 1) s l in
     let b = strung-same g f 0 0 (k + 1) (λ j d. below (0 + j) (omega arith)) in
     let r = strung-same g f (suc (k + 1)) (k + 1) n (λ j d.
-          let e : suc (k + 1) + j ≡ k + 1 + j + 1 = omega arith in
-          ap g e ∙ up (k + 1 + j) (omega arith) (omega arith)) in
+    let e : suc (k + 1) + j ≡ k + 1 + j + 1 = omega arith in
+    ap g e ∙ up (k + 1 + j) (omega arith) (omega arith)) in
     let e : s ≡ k + 1 + (n + 1) = omega arith in
     let w = ap (strung f 0) e ∙ strung-split f 0 (k + 1) (n + 1) in
     let v = strung-split f (0 + (k + 1)) n 1 in
@@ -59,17 +59,19 @@ strung-rotated f g k s l below new last up =
 -- the words that a rotation moves
 pub rotated : (p q r : List ℕ) (from to : ℕ) → from ≤ to → to < length p → length q ≡ length p
     → ((k : ℕ) (z : ℕ) → from + 1 ≤ k → k < from + 1 + (to - from) → getD q k z ≡ getD p (from + (k - (from + 1))) z)
-        × ((k : ℕ) (z : ℕ) → k < from + 1 → getD q k z ≡ getD p k z)
-        × ((k : ℕ) (z : ℕ) → from + 1 + (to - from) ≤ k → getD q k z ≡ getD p k z)
+    × ((k : ℕ) (z : ℕ) → k < from + 1 → getD q k z ≡ getD p k z)
+    × ((k : ℕ) (z : ℕ) → from + 1 + (to - from) ≤ k → getD q k z ≡ getD p k z)
     → r ≡ set q from (getD p to 0) → Rotated p r from to
 rotated p q r from to l m e h is =
-    record { long = ap length is ∙ length-set q from (getD p to 0) ∙ e;
-        first = ap (λ x. getD x from 0) is ∙ getD-set-same q from (getD p to 0) 0 (omega arith);
-        up = λ w a b.
-            let i : from + (w + 1 - (from + 1)) ≡ w = omega arith in
-            other (w + 1) (omega arith) ∙ h .0 (w + 1) 0 (omega arith) (omega arith) ∙ ap (λ x. getD p x 0) i;
-        below = λ w a. other w (omega arith) ∙ h .1 w 0 (omega arith);
-        above = λ w a. other w (omega arith) ∙ h .2 w 0 (omega arith) }
+    record {
+      long = ap length is ∙ length-set q from (getD p to 0) ∙ e;
+      first = ap (λ x. getD x from 0) is ∙ getD-set-same q from (getD p to 0) 0 (omega arith);
+      up = λ w a b.
+          let i : from + (w + 1 - (from + 1)) ≡ w = omega arith in
+          other (w + 1) (omega arith) ∙ h .0 (w + 1) 0 (omega arith) (omega arith) ∙ ap (λ x. getD p x 0) i;
+      below = λ w a. other w (omega arith) ∙ h .1 w 0 (omega arith);
+      above = λ w a. other w (omega arith) ∙ h .2 w 0 (omega arith);
+    }
   where
     other : (w : ℕ) → w ≢ from → getD r w 0 ≡ getD q w 0
     other w ne = ap (λ x. getD x w 0) is ∙ getD-set-other q from w (getD p to 0) 0 ne
@@ -138,32 +140,42 @@ module _ (p q r : List ℕ) (s k : ℕ) (o : Order p s) (l : k + 1 < s) (h : Rot
   was : (j : ℕ) → j < s → (i : ℕ) × (slot r j ≡ slot p i) × (used r j ≡ used p i) × (i < s) × Was k s j i
   was j a =
       elim (cases-order j (k + 1)) [
-        inl e ↦ (s - 1, rw e slot-first, rw e used-first, omega arith, inr (inl (e, refl)))
-      | inr w ↦ elim w [
-          inl b ↦ (j, slot-below j (omega arith), used-below j (omega arith), a, inl (omega arith, refl))
-        | inr b ↦
-            let i : j ≡ j - 1 + 1 = omega arith in
-            (j - 1, ap (slot r) i ∙ slot-up (j - 1) (omega arith) (omega arith), ap (used r) i ∙ used-up (j - 1) (omega arith) (omega arith), omega arith, inr (inr (b, i))) ] ]
+        | inl e ↦ (s - 1, rw e slot-first, rw e used-first, omega arith, inr (inl (e, refl)))
+        | inr w ↦ elim w [
+          | inl b ↦ (j, slot-below j (omega arith), used-below j (omega arith), a, inl (omega arith, refl))
+          | inr b ↦
+              let i : j ≡ j - 1 + 1 = omega arith in
+              (j - 1, ap (slot r) i ∙ slot-up (j - 1) (omega arith) (omega arith), ap (used r) i ∙ used-up (j - 1) (omega arith) (omega arith), omega arith, inr (inr (b, i)))
+        ]
+      ]
 
   pub rotated-order : Order r s
   rotated-order =
-      record { some = o .some; most = o .most; words = let w = o .words in let a = h .long in let b = g .long in omega arith;
-          inside = λ j a. let w = was j a in rw (w .1) (o .inside (w .0) (w .3));
-          apart = λ i j a b e.
-              let v = was i a in let w = was j b in
-              let e′ : v .0 ≡ w .0 = o .apart (v .0) (w .0) (v .3) (w .3) (sym (v .1) ∙ e ∙ w .1) in
-              was-apart k s i j (v .0) (w .0) l a b (v .4) (w .4) e′;
-          small = λ j a. let w = was j a in rw (w .2) (o .small (w .0) (w .3));
-          idle = λ j a b. used-past j a b ∙ o .idle j a b }
+      record {
+        some = o .some;
+        most = o .most;
+        words = let w = o .words in let a = h .long in let b = g .long in omega arith;
+        inside = λ j a. let w = was j a in rw (w .1) (o .inside (w .0) (w .3));
+        apart = λ i j a b e.
+            let v = was i a in let w = was j b in
+            let e′ : v .0 ≡ w .0 = o .apart (v .0) (w .0) (v .3) (w .3) (sym (v .1) ∙ e ∙ w .1) in
+            was-apart k s i j (v .0) (w .0) l a b (v .4) (w .4) e′;
+        small = λ j a. let w = was j a in rw (w .2) (o .small (w .0) (w .3));
+        idle = λ j a b. used-past j a b ∙ o .idle j a b;
+      }
 
   pub rotated-frame : (c : List ℕ) → Frame c p c r s
   rotated-frame c =
       let m = o .most in
       let long : length r ≡ length p = g .long ∙ h .long in
-      record { cells-long = refl; words-long = long; cells-past = refl;
-          words-past = ext-getD 0 (drop 6144 r) (drop 6144 p) (length-drop 6144 r ∙ ap (λ n. n - 6144) long ∙ sym (length-drop 6144 p))
-              (λ i a. getD-drop 6144 r i 0 ∙ g .above (6144 + i) (omega arith) ∙ h .above (6144 + i) (omega arith) ∙ sym (getD-drop 6144 p i 0));
-          spare = slot-past }
+      record {
+        cells-long = refl;
+        words-long = long;
+        cells-past = refl;
+        words-past = ext-getD 0 (drop 6144 r) (drop 6144 p) (length-drop 6144 r ∙ ap (λ n. n - 6144) long ∙ sym (length-drop 6144 p))
+            (λ i a. getD-drop 6144 r i 0 ∙ g .above (6144 + i) (omega arith) ∙ h .above (6144 + i) (omega arith) ∙ sym (getD-drop 6144 p i 0));
+        spare = slot-past;
+      }
 
   module _ (none : used p (s - 1) ≡ 0) where
     pub rotated-next : used r (k + 1) ≡ 0
@@ -178,8 +190,8 @@ module _ (p q r : List ℕ) (s k : ℕ) (o : Order p s) (l : k + 1 < s) (h : Rot
     pub rotated-text : (c : List ℕ) → cells-of c r s ≡ cells-of c p s
     rotated-text c =
         strung-rotated (piece c p) (piece c r) k s l (λ j a. same-piece c r p j j (slot-below j a) (used-below j a))
-            (piece-none c r (k + 1) rotated-next) (piece-none c p (s - 1) none)
-            (λ j a b. same-piece c r p (j + 1) j (slot-up j a b) (used-up j a b))
+        (piece-none c r (k + 1) rotated-next) (piece-none c p (s - 1) none)
+        (λ j a b. same-piece c r p (j + 1) j (slot-up j a b) (used-up j a b))
 
 -- all counts are made right again
 module _ (c p q : List ℕ) (s : ℕ) (o : Order p s) (h : Recounted p q) where
@@ -190,8 +202,11 @@ module _ (c p q : List ℕ) (s : ℕ) (o : Order p s) (h : Recounted p q) where
   recounted =
       let m = o .most in
       let i = o .some in
-      record { order = resized-order p q s 0 (used p 0) o h i (o .small 0 i); frame = frame-words c p q s 0 (used p 0) h;
-          text = strung-same (piece c q) (piece c p) 0 0 s (λ j a. same-piece c q p (0 + j) (0 + j) (h .order (0 + j) (omega arith)) (recounted-used (0 + j) (omega arith))) }
+      record {
+        order = resized-order p q s 0 (used p 0) o h i (o .small 0 i);
+        frame = frame-words c p q s 0 (used p 0) h;
+        text = strung-same (piece c q) (piece c p) 0 0 s (λ j a. same-piece c q p (0 + j) (0 + j) (h .order (0 + j) (omega arith)) (recounted-used (0 + j) (omega arith)));
+      }
 
 -- the text stays the same step by step
 pub same-both : (c p d q e r : List ℕ) (s : ℕ) → Same-text c p d q s → Same-text d q e r s → Same-text c p e r s
@@ -229,8 +244,11 @@ module _ (c p d q : List ℕ) (s k o n : ℕ) (w : Order p s) (l : k + 1 < s) (n
       let y = append-nil (piece c p k) in
       let f = moved-here in
       let g = moved-next in
-      record { order = h .order; frame = h .frame;
-          text = strung-pair-same (piece c p) (piece d q) k (k + 1) s (omega arith) l (λ j i m. absurd (omega arith)) (λ j i m m′. h .others j i m′ m) (cc) }
+      record {
+        order = h .order;
+        frame = h .frame;
+        text = strung-pair-same (piece c p) (piece d q) k (k + 1) s (omega arith) l (λ j i m. absurd (omega arith)) (λ j i m m′. h .others j i m′ m) (cc);
+      }
 
   pub moved-used-here : used q k ≡ o
   moved-used-here =
@@ -257,7 +275,9 @@ cut c p q r d t v s k o n w l a none h g e f i =
     let second = moved-text c r d t s k o n w′ l next a′ e f in
     let third = recounted d t v s (f .order) i in
     let same = recounted-used d t v s (f .order) i in
-    record { same = same-both c p c r d v s first (same-both c r d t d v s second third);
-        place = before-same v t k (λ j m. same j (omega arith)) ∙ moved-before c r d t s k o n w′ l next a′ e f ∙ rotated-before p q r s k w l h g none;
-        here = same k (omega arith) ∙ moved-used-here c r d t s k o n w′ l next a′ e f;
-        next = same (k + 1) l ∙ moved-used-next c r d t s k o n w′ l next a′ e f ∙ ap (λ m. m - o) here }
+    record {
+      same = same-both c p c r d v s first (same-both c r d t d v s second third);
+      place = before-same v t k (λ j m. same j (omega arith)) ∙ moved-before c r d t s k o n w′ l next a′ e f ∙ rotated-before p q r s k w l h g none;
+      here = same k (omega arith) ∙ moved-used-here c r d t s k o n w′ l next a′ e f;
+      next = same (k + 1) l ∙ moved-used-next c r d t s k o n w′ l next a′ e f ∙ ap (λ m. m - o) here;
+    }

@@ -70,7 +70,7 @@ inserted-twice c p d q e r f t s k o a b st l m h g i u =
     let two = changed-text e r f t s (k + 1) 0 0 b l (omega arith) i in
     let us = length-piece d q k in
     let ur : used r k ≡ o + length a =
-          sym (length-piece e r k) ∙ ap length (g .here) ∙ length-replaced (piece d q k) o 0 a (omega arith) ∙ omega arith in
+    sym (length-piece e r k) ∙ ap length (g .here) ∙ length-replaced (piece d q k) o 0 a (omega arith) ∙ omega arith in
     let bs = before-same r q k (λ j x. used-from d q e r j j (g .others j (omega arith) (omega arith))) in
     let bm = before-more r k in
     let pl = h .place in
@@ -102,8 +102,9 @@ edited-both c p d q e r s ys zs f h same = record { store = h .store; frame = fr
 pub not-last : (p : List ℕ) (s k : ℕ) → k < s → used p (s - 1) ≡ 0 → 0 < used p k → k + 1 < s
 not-last p s k l e m =
     elim (cases-lt (k + 1) s) [
-      inl h ↦ h
-    | inr h ↦ absurd (let i : k ≡ s - 1 = omega arith in let z : used p k ≡ 0 = ap (used p) i ∙ e in omega arith) ]
+      | inl h ↦ h
+      | inr h ↦ absurd (let i : k ≡ s - 1 = omega arith in let z : used p k ≡ 0 = ap (used p) i ∙ e in omega arith)
+    ]
 
 -- the letters of both halves
 pub halves : (ls : List ℕ) (m s c : ℕ) → new-cells (take (m - 0) ls) s c ++ new-cells (take (length ls - m) (drop m ls)) s c ≡ new-cells ls s c

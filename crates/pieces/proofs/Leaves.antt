@@ -16,11 +16,13 @@ use Rattle.pieces.proofs.Counts.{leaf-used}
 -- one leaf is written
 pub set-resized : (p : List ℕ) (k n : ℕ) → k < 2048 → 6144 ≤ length p → Resized p (set p (4096 + k) n) k n
 set-resized p k n l w =
-    record { long = length-set p (4096 + k) n;
-        here = getD-set-same p (4096 + k) n 0 (omega arith);
-        others = λ j m ne. getD-set-other p (4096 + k) (4096 + j) n 0 (omega arith);
-        order = λ j m. getD-set-other p (4096 + k) j n 0 (omega arith);
-        past = drop-set-lt 6144 p (4096 + k) n (omega arith) }
+    record {
+      long = length-set p (4096 + k) n;
+      here = getD-set-same p (4096 + k) n 0 (omega arith);
+      others = λ j m ne. getD-set-other p (4096 + k) (4096 + j) n 0 (omega arith);
+      order = λ j m. getD-set-other p (4096 + k) j n 0 (omega arith);
+      past = drop-set-lt 6144 p (4096 + k) n (omega arith);
+    }
 
 -- the words from a on were lent and came back as ys
 module _ (a : ℕ) (xs ys : List ℕ) (start : a ≤ length xs) (long : length ys ≡ length xs - a) where
@@ -59,8 +61,10 @@ module _ (p ys : List ℕ) (w : 6144 ≤ length p) (l : length ys ≡ length (ta
   pub part-resized : (k n : ℕ) → getD ys (2048 + k) 0 ≡ n → ((j : ℕ) → j < 2048 → j ≢ k → getD ys (2048 + j) 0 ≡ used p j)
       → drop 4096 ys ≡ drop 4096 (take (length p - 2048) (drop 2048 p)) → Resized p (putMid 2048 (length p - 2048) p ys) k n
   part-resized k n here others rest =
-      record { long = lent-length 2048 p ys (omega arith) part-long;
-          here = part-leaf k ∙ here;
-          others = λ j m ne. part-leaf j ∙ others j m ne;
-          order = λ j m. lent-front 2048 p ys (omega arith) part-long j m;
-          past = lent-past 2048 p ys (omega arith) part-long 4096 (rest ∙ ap (drop 4096) (take-rest p 2048)) }
+      record {
+        long = lent-length 2048 p ys (omega arith) part-long;
+        here = part-leaf k ∙ here;
+        others = λ j m ne. part-leaf j ∙ others j m ne;
+        order = λ j m. lent-front 2048 p ys (omega arith) part-long j m;
+        past = lent-past 2048 p ys (omega arith) part-long 4096 (rest ∙ ap (drop 4096) (take-rest p 2048));
+      }

@@ -47,13 +47,18 @@ module _ (c p d q : List ℕ) (s i j n : ℕ) (l : i < j) (m : j < s) (a : n ≤
       let x = poured-source in
       let y = h .target in
       let b = append-assoc (piece c p i) (take n (piece c p j)) (drop n (piece c p j)) in
-      record { order = h .order; frame = h .frame;
-          text = strung-pair-same (piece c p) (piece d q) i j s l m (λ x y z. piece-none c p x (k .empty x y z)) (h .others) (cc) }
+      record {
+        order = h .order;
+        frame = h .frame;
+        text = strung-pair-same (piece c p) (piece d q) i j s l m (λ x y z. piece-none c p x (k .empty x y z)) (h .others) (cc);
+      }
 
   pub poured-packed : Packed q i j
   poured-packed =
-      record { full = λ x y. rw (used-from c p d q x x (h .others x (omega arith) (omega arith) (omega arith))) (k .full x y);
-          empty = λ x y z. used-from c p d q x x (h .others x (omega arith) (omega arith) (omega arith)) ∙ k .empty x y z }
+      record {
+        full = λ x y. rw (used-from c p d q x x (h .others x (omega arith) (omega arith) (omega arith))) (k .full x y);
+        empty = λ x y z. used-from c p d q x x (h .others x (omega arith) (omega arith) (omega arith)) ∙ k .empty x y z;
+      }
 
   pub poured-less : used q j ≡ used p j - n
   poured-less = sym (length-piece d q j) ∙ ap length poured-source ∙ length-drop n (piece c p j) ∙ ap (λ x. x - n) (length-piece c p j)
@@ -67,8 +72,9 @@ before-full p (suc n) h = omega (arith, before-full p n (λ k l. h k (omega arit
 pub packed-spare : (p : List ℕ) (s i : ℕ) → 0 < s → Packed p i s → i < s → before p s < 768 * (s - 1) → used p (s - 1) ≡ 0
 packed-spare p s i o h l m =
     elim (cases-lt i (s - 1)) [
-      inl a ↦ h .empty (s - 1) a (omega arith)
-    | inr a ↦ absurd (
-        let e : s ≡ s - 1 + 1 = omega arith in
-        let b : before p s ≡ before p (s - 1) + used p (s - 1) = ap (before p) e ∙ before-more p (s - 1) in
-        omega (arith, before-full p (s - 1) (λ k d. h .full k (omega arith)))) ]
+      | inl a ↦ h .empty (s - 1) a (omega arith)
+      | inr a ↦ absurd (
+          let e : s ≡ s - 1 + 1 = omega arith in
+          let b : before p s ≡ before p (s - 1) + used p (s - 1) = ap (before p) e ∙ before-more p (s - 1) in
+          omega (arith, before-full p (s - 1) (λ k d. h .full k (omega arith))))
+    ]

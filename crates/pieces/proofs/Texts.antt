@@ -69,6 +69,7 @@ drop-text-more c p s k j l m =
     let more = drop-more (piece c p k) j no-cell (omega arith) in
     let at = piece-at c p k j m in
     cc
+
 -- the next piece begins where piece k ends
 pub drop-text-next : (c p : List ℕ) (s k : ℕ) → drop (before p (k + 1) + 0) (cells-of c p s) ≡ drop (before p k + used p k) (cells-of c p s)
 drop-text-next c p s k = rw (add-zero, before-more)

@@ -15,9 +15,13 @@ ghost use Rattle.tree.specs.Tree.{Sums};
 use model::Cell;
 
 const CELLS: usize = 1024;
+
 const FULL: usize = 768;
+
 const TREE: usize = 2048;
+
 const LEAVES: usize = 4096;
+
 const WORDS: usize = 6144;
 
 // A piece, and a place in it.
@@ -98,7 +102,15 @@ pub fn overwrite(c: &mut [u32], p: &[u32], s: usize, k: usize, o: usize, cell: C
 }
 
 // Puts letters into the text at `place`: new cells in one style, put in by one change.
-pub fn put(c: &mut [u32], p: &mut [u32], s: usize, place: usize, letters: &[u8], style: u32, change: u32)
+pub fn put(
+    c: &mut [u32],
+    p: &mut [u32],
+    s: usize,
+    place: usize,
+    letters: &[u8],
+    style: u32,
+    change: u32,
+)
     requires store { ⌜ Store (now c) (now p) s ⌝ }
     requires place { ⌜ place ≤ length (cells-of (now c) (now p) s) ⌝ }
     requires few { ⌜ length (now letters) ≤ 1024 ⌝ }
@@ -147,7 +159,7 @@ pub fn clear(c: &mut [u32], p: &mut [u32], s: usize)
 }
 
 // The first `n` words become 0.
-fn zero(w: &mut [u32], n: usize)
+pub fn zero(w: &mut [u32], n: usize)
     requires { ⌜ n ≤ length (now w) ⌝ }
     ensures { λ _. ⌜ now (w .exit) ≡ replicate n 0 ++ drop n (now (w .entry)) ⌝ }
 {
@@ -187,7 +199,15 @@ fn gap(p: &[u32], s: usize, place: usize) -> Spot
 }
 
 // Puts the letters in at a gap. If they do not fit the piece there, it is cut at the gap, which takes the last piece.
-fn insert(c: &mut [u32], p: &mut [u32], s: usize, spot: Spot, letters: &[u8], style: u32, change: u32)
+fn insert(
+    c: &mut [u32],
+    p: &mut [u32],
+    s: usize,
+    spot: Spot,
+    letters: &[u8],
+    style: u32,
+    change: u32,
+)
     requires store { ⌜ Store (now c) (now p) s ⌝ }
     requires here { ⌜ spot .piece < s ⌝ }
     requires within { ⌜ spot .offset ≤ uses (now p) (spot .piece) ⌝ }
@@ -257,7 +277,16 @@ fn recount(p: &mut [u32], s: usize)
 }
 
 // Makes room for the letters in the slot of piece `k`, from its cell `o` on, and writes them there.
-fn insert_cells(c: &mut [u32], p: &[u32], s: usize, k: usize, o: usize, letters: &[u8], style: u32, change: u32)
+fn insert_cells(
+    c: &mut [u32],
+    p: &[u32],
+    s: usize,
+    k: usize,
+    o: usize,
+    letters: &[u8],
+    style: u32,
+    change: u32,
+)
     requires order { ⌜ Order (now p) s ⌝ }
     requires room { ⌜ 4096 * s ≤ length (now c) ⌝ }
     requires here { ⌜ k < s ⌝ }
@@ -297,7 +326,16 @@ fn append_cells(c: &mut [u32], p: &[u32], s: usize, i: usize, j: usize, o: usize
 }
 
 // Puts the letters into piece `k` before its cell `o`. They fit its slot.
-fn insert_here(c: &mut [u32], p: &mut [u32], s: usize, k: usize, o: usize, letters: &[u8], style: u32, change: u32)
+fn insert_here(
+    c: &mut [u32],
+    p: &mut [u32],
+    s: usize,
+    k: usize,
+    o: usize,
+    letters: &[u8],
+    style: u32,
+    change: u32,
+)
     requires store { ⌜ Store (now c) (now p) s ⌝ }
     requires here { ⌜ k < s ⌝ }
     requires within { ⌜ o ≤ uses (now p) k ⌝ }

@@ -36,26 +36,32 @@ four-same c b x l =
 -- four words written at cell a
 pub written : (c : List ℕ) (a : ℕ) (x : Cell) → 4 * a + 4 ≤ length c
     → (cellAt (set (set (set (set c (4 * a) (x .letter)) (4 * a + 1) (x .style)) (4 * a + 2) (x .«put_in»)) (4 * a + 3) (x .struck)) a ≡ cell-of x)
-        × Kept c (set (set (set (set c (4 * a) (x .letter)) (4 * a + 1) (x .style)) (4 * a + 2) (x .«put_in»)) (4 * a + 3) (x .struck)) a 1
+    × Kept c (set (set (set (set c (4 * a) (x .letter)) (4 * a + 1) (x .style)) (4 * a + 2) (x .«put_in»)) (4 * a + 3) (x .struck)) a 1
 unfolding cellAt
 written c a x l =
-    let s = four-same c (4 * a) x l in
-    (cc,
-     record { long = simp length-set; below = λ w h. four-other c (4 * a) x w (omega arith) (omega arith) (omega arith) (omega arith);
-         above = λ w h. four-other c (4 * a) x w (omega arith) (omega arith) (omega arith) (omega arith) })
+    let s = four-same c (4 * a) x l in (
+      cc,
+      record {
+        long = simp length-set;
+        below = λ w h. four-other c (4 * a) x w (omega arith) (omega arith) (omega arith) (omega arith);
+        above = λ w h. four-other c (4 * a) x w (omega arith) (omega arith) (omega arith) (omega arith);
+      },
+    )
 
 -- n cells copied, word by word
 pub copied : (c d : List ℕ) (from to n : ℕ) → length d ≡ length c
     → ((k : ℕ) (z : ℕ) → 4 * to ≤ k → k < 4 * to + (4 * (from + n) - 4 * from) → getD d k z ≡ getD c (4 * from + (k - 4 * to)) z)
-        × ((k : ℕ) (z : ℕ) → k < 4 * to → getD d k z ≡ getD c k z)
-        × ((k : ℕ) (z : ℕ) → 4 * to + (4 * (from + n) - 4 * from) ≤ k → getD d k z ≡ getD c k z)
+    × ((k : ℕ) (z : ℕ) → k < 4 * to → getD d k z ≡ getD c k z)
+    × ((k : ℕ) (z : ℕ) → 4 * to + (4 * (from + n) - 4 * from) ≤ k → getD d k z ≡ getD c k z)
     → (cellsAt d to n ≡ cellsAt c from n) × Kept c d to n
-copied c d from to n e h =
-    (cells-same d c to from n (λ i l. cell-same d c (to + i) (from + i) (simp add-zero at (word i 0 l (omega arith))) (word i 1 l (omega arith)) (word i 2 l (omega arith)) (word i 3 l (omega arith))),
-     record { long = e; below = λ w l. h .1 w 0 l; above = λ w l. h .2 w 0 (omega arith) })
+copied c d from to n e h = (
+  cells-same d c to from n (λ i l. cell-same d c (to + i) (from + i) (simp add-zero at (word i 0 l (omega arith))) (word i 1 l (omega arith)) (word i 2 l (omega arith)) (word i 3 l (omega arith))),
+  record { long = e; below = λ w l. h .1 w 0 l; above = λ w l. h .2 w 0 (omega arith) },
+)
   where
     at : (i j : ℕ) → 4 * (from + i) + j ≡ 4 * from + (4 * (to + i) + j - 4 * to)
     at i j = omega arith
+
     word : (i j : ℕ) → i < n → j < 4 → getD d (4 * (to + i) + j) 0 ≡ getD c (4 * (from + i) + j) 0
     word i j l m = h .0 (4 * (to + i) + j) 0 (omega arith) (omega arith) ∙ ap (λ w. getD c w 0) (sym (at i j))
 
@@ -68,6 +74,7 @@ filled c d e a i ls s ch l h g f k w j =
     let same = kept-cells-below d e (a + i) 1 j a i (omega arith) in
     let one = cells-more e a i in
     let t = take-more ls i 0 h in
-    let m = new-cells-more (take i ls) l s ch in
-    (cc,
-     kept-twice c d e a (i + 1) (kept-wider c d a i k a (i + 1) (omega arith) (omega arith)) (kept-wider d e (a + i) 1 j a (i + 1) (omega arith) (omega arith)))
+    let m = new-cells-more (take i ls) l s ch in (
+      cc,
+      kept-twice c d e a (i + 1) (kept-wider c d a i k a (i + 1) (omega arith) (omega arith)) (kept-wider d e (a + i) 1 j a (i + 1) (omega arith) (omega arith)),
+    )

@@ -79,7 +79,7 @@ module _ (c d : List ℕ) (b n : ℕ) (k : Kept c d b n) where
   kept-drop m l =
       let e = k .long in
       ext-getD 0 (drop m d) (drop m c) (simp (length-drop) (omega arith))
-          (λ i h. simp getD-drop (k .above (m + i) (omega arith)))
+      (λ i h. simp getD-drop (k .above (m + i) (omega arith)))
 
 pub kept-none : (c : List ℕ) (a : ℕ) → Kept c c a 0
 kept-none c a = record { long = refl; below = λ w h. refl; above = λ w h. refl }

@@ -6,4 +6,4 @@ use Rattle.pieces.proofs.cell.Needs as need
 pub returns : need.returns
 returns c =
     c .read .ensures ∙ ap (cellAt (c .args .c .now)) (c .«number-of» .ensures)
-        ∙ sym (text-at (c .args .c .now) (c .args .p .now) (c .args .s) (c .args .k) (c .args .j) (c .pre .here) (c .pre .within))
+    ∙ sym (text-at (c .args .c .now) (c .args .p .now) (c .args .s) (c .args .k) (c .args .j) (c .pre .here) (c .pre .within))

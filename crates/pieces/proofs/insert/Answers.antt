@@ -14,7 +14,7 @@ use Rattle.pieces.proofs.insert.Needs as need
 pub returns-then-used-n-le-CELLS : need.returns-then-used-n-le-CELLS
 returns-then-used-n-le-CELLS c =
     edited (c .args .c .now) (c .args .p .now) (c .insert-here .last .c) (c .insert-here .last .p) (c .args .s) (c .args .spot .piece) (c .args .spot .offset) 0
-        (new-cells (c .args .letters .now) (c .args .style) (c .args .change)) (c .pre .store) (c .pre .here) (omega arith) (c .insert-here .ensures .changed) (c .insert-here .ensures .sums)
+    (new-cells (c .args .letters .now) (c .args .style) (c .args .change)) (c .pre .store) (c .pre .here) (omega arith) (c .insert-here .ensures .changed) (c .insert-here .ensures .sums)
 
 pub split-requires : need.split-requires
 split-requires c κs =
@@ -28,8 +28,12 @@ insert-here-requires-2 c κs =
     let o = h .here in
     let w = c .pre .within in
     record {
-        store = store-after (c .args .c .now) (c .args .p .now) (c .split .last .c) (c .split .last .p) (c .args .s) (c .pre .store) (h .same .frame) (h .same .order) (c .split .ensures .sums);
-        here = c .pre .here; within = omega arith; fits = simp length-take (omega arith); mark = c .pre .mark }
+      store = store-after (c .args .c .now) (c .args .p .now) (c .split .last .c) (c .split .last .p) (c .args .s) (c .pre .store) (h .same .frame) (h .same .order) (c .split .ensures .sums);
+      here = c .pre .here;
+      within = omega arith;
+      fits = simp length-take (omega arith);
+      mark = c .pre .mark;
+    }
 
 pub insert-here-requires-3 : need.insert-here-requires-3
 insert-here-requires-3 c κs =
@@ -45,8 +49,12 @@ insert-here-requires-3 c κs =
     let u = used-from (c .split .last .c) (c .split .last .p) (c .insert-here-2 .last .c) (c .insert-here-2 .last .p) (k + 1) (k + 1) (g .others (k + 1) l (omega arith)) in
     let v = h .next in
     record {
-        store = store-after (c .split .last .c) (c .split .last .p) (c .insert-here-2 .last .c) (c .insert-here-2 .last .p) s st (g .frame) (g .order) (c .insert-here-2 .ensures .sums);
-        here = l; within = omega arith; fits = simp (length-take, length-drop) (omega arith); mark = c .pre .mark }
+      store = store-after (c .split .last .c) (c .split .last .p) (c .insert-here-2 .last .c) (c .insert-here-2 .last .p) s st (g .frame) (g .order) (c .insert-here-2 .ensures .sums);
+      here = l;
+      within = omega arith;
+      fits = simp (length-take, length-drop) (omega arith);
+      mark = c .pre .mark;
+    }
 
 pub returns : need.returns
 returns c =
@@ -59,6 +67,6 @@ returns c =
     let b = new-cells (take (length ls - m) (drop m ls)) (c .args .style) (c .args .change) in
     let l : k + 1 < s = not-last (c .args .p .now) s k (c .pre .here) (c .pre .spare (omega arith)) (omega arith) in
     rw (halves ls m (c .args .style) (c .args .change)) at
-        (inserted-twice (c .args .c .now) (c .args .p .now) (c .split .last .c) (c .split .last .p) (c .insert-here-2 .last .c) (c .insert-here-2 .last .p)
-            (c .insert-here-3 .last .c) (c .insert-here-3 .last .p) s k o a b (c .pre .store) l (c .pre .within) (c .split .ensures .cut)
-            (c .insert-here-2 .ensures .changed) (c .insert-here-3 .ensures .changed) (c .insert-here-3 .ensures .sums))
+    (inserted-twice (c .args .c .now) (c .args .p .now) (c .split .last .c) (c .split .last .p) (c .insert-here-2 .last .c) (c .insert-here-2 .last .p)
+    (c .insert-here-3 .last .c) (c .insert-here-3 .last .p) s k o a b (c .pre .store) l (c .pre .within) (c .split .ensures .cut)
+    (c .insert-here-2 .ensures .changed) (c .insert-here-3 .ensures .changed) (c .insert-here-3 .ensures .sums))

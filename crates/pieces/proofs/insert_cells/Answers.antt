@@ -7,6 +7,6 @@ pub returns : need.returns
 returns c =
     let ls = c .args .letters .now in
     inserted (c .args .c .now) (c .copy .last .c) (c .fill .last .c) (c .args .p .now) (c .args .k) (c .args .o) (length ls) (c .number-of-at .result)
-        (new-cells ls (c .args .style) (c .args .change)) (c .pre .within) (c .pre .fits) (c .number-of-at .ensures)
-        (rw (c .used .ensures) at (c .copy .ensures .copied)) (rw (c .used .ensures) at (c .copy .ensures .kept))
-        (c .fill .ensures .filled) (c .fill .ensures .kept)
+    (new-cells ls (c .args .style) (c .args .change)) (c .pre .within) (c .pre .fits) (c .number-of-at .ensures)
+    (rw (c .used .ensures) at (c .copy .ensures .copied)) (rw (c .used .ensures) at (c .copy .ensures .kept))
+    (c .fill .ensures .filled) (c .fill .ensures .kept)

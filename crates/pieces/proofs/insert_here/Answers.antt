@@ -9,7 +9,8 @@ returns c =
     let ls = c .args .letters .now in
     let n = length-new ls (c .args .style) (c .args .change) in
     record {
-        changed = replaced-here (c .args .c .now) (c .args .p .now) (c .insert-cells .last .c) (c .resize .last .p) (c .args .s) (c .args .k) (c .args .o) 0 _
-            (new-cells ls (c .args .style) (c .args .change)) (c .pre .store .table .order) (c .pre .here) (omega arith) (omega arith) (omega arith)
-            (c .insert-cells .ensures) (c .resize .ensures .resized);
-        sums = c .resize .ensures .sums }
+      changed = replaced-here (c .args .c .now) (c .args .p .now) (c .insert-cells .last .c) (c .resize .last .p) (c .args .s) (c .args .k) (c .args .o) 0 _
+          (new-cells ls (c .args .style) (c .args .change)) (c .pre .store .table .order) (c .pre .here) (omega arith) (omega arith) (omega arith)
+          (c .insert-cells .ensures) (c .resize .ensures .resized);
+      sums = c .resize .ensures .sums;
+    }

@@ -16,4 +16,4 @@ find-spot-requires c κs =
 pub returns : need.returns
 returns c =
     found-located (c .args .p .now) (c .args .s) (c .args .place) (c .find-spot .result .leaf) (c .find-spot .result .offset) (c .pre .table)
-        (rw take-rest at (c .find-spot .ensures))
+    (rw take-rest at (c .find-spot .ensures))

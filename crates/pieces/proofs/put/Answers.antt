@@ -29,15 +29,19 @@ insert-requires-2 c κs =
     let small = c .pre .store .table .order .small (c .gap-spot .result .piece) (c .gap-spot .ensures .here) in
     let f = c .pre .fits in
     record {
-        store = store-after (c .args .c .now) (c .args .p .now) (c .repack .last .c) (c .repack .last .p) (c .args .s) (c .pre .store) (h .frame) (h .order) (c .repack .ensures .sums);
-        here = c .gap-spot-2 .ensures .here; within = c .gap-spot-2 .ensures .within; few = c .pre .few;
-        spare = λ l. c .repack .ensures .spare (omega arith); mark = c .pre .mark }
+      store = store-after (c .args .c .now) (c .args .p .now) (c .repack .last .c) (c .repack .last .p) (c .args .s) (c .pre .store) (h .frame) (h .order) (c .repack .ensures .sums);
+      here = c .gap-spot-2 .ensures .here;
+      within = c .gap-spot-2 .ensures .within;
+      few = c .pre .few;
+      spare = λ l. c .repack .ensures .spare (omega arith);
+      mark = c .pre .mark;
+    }
 
 pub returns-then-has-le-CELLS : need.returns-then-has-le-CELLS
 returns-then-has-le-CELLS c =
     edited-as (c .args .c .now) (c .args .p .now) (c .insert .last .c) (c .insert .last .p) (c .args .s) _ _ (c .insert .ensures)
-        (put-text (cells-of (c .args .c .now) (c .args .p .now) (c .args .s)) (new-cells (c .args .letters .now) (c .args .style) (c .args .change))
-            (before (c .args .p .now) (c .gap-spot .result .piece) + c .gap-spot .result .offset) (c .args .place) (c .gap-spot .ensures .sum))
+    (put-text (cells-of (c .args .c .now) (c .args .p .now) (c .args .s)) (new-cells (c .args .letters .now) (c .args .style) (c .args .change))
+    (before (c .args .p .now) (c .gap-spot .result .piece) + c .gap-spot .result .offset) (c .args .place) (c .gap-spot .ensures .sum))
 
 pub returns : need.returns
 returns c =
@@ -46,4 +50,4 @@ returns c =
     let new = new-cells (c .args .letters .now) (c .args .style) (c .args .change) in
     let i = before (c .repack .last .p) (c .gap-spot-2 .result .piece) + c .gap-spot-2 .result .offset in
     edited-both (c .args .c .now) (c .args .p .now) (c .repack .last .c) (c .repack .last .p) (c .insert-2 .last .c) (c .insert-2 .last .p) (c .args .s) _ _ (h .frame)
-        (c .insert-2 .ensures) (ap (λ x. replaced x i 0 new) (h .text) ∙ put-text t new i (c .args .place) (c .gap-spot-2 .ensures .sum))
+    (c .insert-2 .ensures) (ap (λ x. replaced x i 0 new) (h .text) ∙ put-text t new i (c .args .place) (c .gap-spot-2 .ensures .sum))

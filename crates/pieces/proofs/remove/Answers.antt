@@ -11,10 +11,11 @@ use Rattle.pieces.proofs.Edit.{edited-none, edited-both, removed-none, removed
 use Rattle.pieces.proofs.remove.Needs as need
 
 pub loop-left-holds : need.loop-left-holds
-loop-left-holds c =
-    (omega arith,
-     edited-none (c .args .c .now) (c .args .p .now) (c .args .s) _ (c .pre .store)
-         (removed-none (cells-of (c .args .c .now) (c .args .p .now) (c .args .s)) (c .args .place) (c .args .n - c .args .n) (omega arith)))
+loop-left-holds c = (
+  omega arith,
+  edited-none (c .args .c .now) (c .args .p .now) (c .args .s) _ (c .pre .store)
+      (removed-none (cells-of (c .args .c .now) (c .args .p .now) (c .args .s)) (c .args .place) (c .args .n - c .args .n) (omega arith)),
+)
 
 pub remove-some-left-requires : need.remove-some-left-requires
 remove-some-left-requires c κs =
@@ -38,10 +39,11 @@ loop-left-again c =
     let w = c .pre .within in
     let n = c .args .n in
     let left = c .loop-left .left in
-    let e : n - left + r ≡ n - (left - r) = omega arith in
-    (omega arith,
-     edited-both (c .args .c .now) (c .args .p .now) (c .loop-left .c) (c .loop-left .p) (c .remove-some-left .last .c) (c .remove-some-left .last .p) (c .args .s) _ _ (h .frame) g
-         (ap (λ x. replaced x (c .args .place) r []) (h .text) ∙ removed-more t (c .args .place) (n - left) r (omega arith) ∙ ap (λ x. replaced t (c .args .place) x []) e))
+    let e : n - left + r ≡ n - (left - r) = omega arith in (
+      omega arith,
+      edited-both (c .args .c .now) (c .args .p .now) (c .loop-left .c) (c .loop-left .p) (c .remove-some-left .last .c) (c .remove-some-left .last .p) (c .args .s) _ _ (h .frame) g
+          (ap (λ x. replaced x (c .args .place) r []) (h .text) ∙ removed-more t (c .args .place) (n - left) r (omega arith) ∙ ap (λ x. replaced t (c .args .place) x []) e),
+    )
 
 pub returns : need.returns
 returns c =

@@ -13,7 +13,9 @@ returns c =
     let w = c .locate-spot .ensures .within in
     let m : c .locate-spot .result .offset + c .min-m .result ≤ used (c .args .p .now) (c .locate-spot .result .piece) = omega arith in
     record {
-        edited = rw (c .locate-spot .ensures .sum) at
-            (edited (c .args .c .now) (c .args .p .now) (c .remove-here .last .c) (c .remove-here .last .p) (c .args .s) (c .locate-spot .result .piece) (c .locate-spot .result .offset)
-                (c .min-m .result) [] (c .pre .store) (c .locate-spot .ensures .here) m (c .remove-here .ensures .changed) (c .remove-here .ensures .sums));
-        some = omega arith; most = omega arith }
+      edited = rw (c .locate-spot .ensures .sum) at
+          (edited (c .args .c .now) (c .args .p .now) (c .remove-here .last .c) (c .remove-here .last .p) (c .args .s) (c .locate-spot .result .piece) (c .locate-spot .result .offset)
+          (c .min-m .result) [] (c .pre .store) (c .locate-spot .ensures .here) m (c .remove-here .ensures .changed) (c .remove-here .ensures .sums));
+      some = omega arith;
+      most = omega arith;
+    }

@@ -18,8 +18,9 @@ returns c =
     let ys = c .set .last .t in
     let leaves = rw take-rest at (c .set .ensures .leaves) in
     record {
-        resized = part-resized p ys (c .pre .words) (c .set .kept .t) k n
-            (leaves k (c .pre .leaf) ∙ getD-set-same (drop 2048 p) (2048 + k) n 0 (simp length-drop (omega arith)))
-            (λ j l ne. leaves j l ∙ getD-set-other (drop 2048 p) (2048 + k) (2048 + j) n 0 (omega arith) ∙ leaf-used p j)
-            (c .set .ensures .rest);
-        sums = rw (part-back p ys (c .pre .words) (c .set .kept .t)) (c .set .ensures .sums) }
+      resized = part-resized p ys (c .pre .words) (c .set .kept .t) k n
+          (leaves k (c .pre .leaf) ∙ getD-set-same (drop 2048 p) (2048 + k) n 0 (simp length-drop (omega arith)))
+          (λ j l ne. leaves j l ∙ getD-set-other (drop 2048 p) (2048 + k) (2048 + j) n 0 (omega arith) ∙ leaf-used p j)
+          (c .set .ensures .rest);
+      sums = rw (part-back p ys (c .pre .words) (c .set .kept .t)) (c .set .ensures .sums);
+    }

@@ -16,13 +16,21 @@ shift-requires c κs =
     let next = rotated-next p (c .rotate .last .p) r s k w (c .pre .here) (c .rotate .ensures) (c .rotate-2 .ensures) (c .pre .spare) in
     let here = rotated-here p (c .rotate .last .p) r s k w (c .pre .here) (c .rotate .ensures) (c .rotate-2 .ensures) (c .pre .spare) in
     let small = w′ .small k (omega arith) in
-    record { order = w′; room = c .pre .store .room; target = c .pre .here; source = omega arith; two = omega arith;
-        within = omega (arith, c .used .ensures, c .pre .within); fits = omega (arith, c .used .ensures) }
+    record {
+      order = w′;
+      room = c .pre .store .room;
+      target = c .pre .here;
+      source = omega arith;
+      two = omega arith;
+      within = omega (arith, c .used .ensures, c .pre .within);
+      fits = omega (arith, c .used .ensures);
+    }
 
 pub returns : need.returns
 returns c =
     record {
-        cut = cut (c .args .c .now) (c .args .p .now) (c .rotate .last .p) (c .rotate-2 .last .p) (c .shift .last .c) (c .shift .last .p) (c .recount .last .p)
-            (c .args .s) (c .args .k) (c .args .o) _ (c .pre .store .table .order) (c .pre .here) (c .pre .within) (c .pre .spare)
-            (c .rotate .ensures) (c .rotate-2 .ensures) (omega (arith, c .used .ensures)) (c .shift .ensures) (c .recount .ensures .same);
-        sums = c .recount .ensures .sums }
+      cut = cut (c .args .c .now) (c .args .p .now) (c .rotate .last .p) (c .rotate-2 .last .p) (c .shift .last .c) (c .shift .last .p) (c .recount .last .p)
+          (c .args .s) (c .args .k) (c .args .o) _ (c .pre .store .table .order) (c .pre .here) (c .pre .within) (c .pre .spare)
+          (c .rotate .ensures) (c .rotate-2 .ensures) (omega (arith, c .used .ensures)) (c .shift .ensures) (c .recount .ensures .same);
+      sums = c .recount .ensures .sums;
+    }

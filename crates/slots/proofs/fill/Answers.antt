@@ -16,7 +16,7 @@ loop-i-holds c = (refl, kept-none (c .args .c .now) (c .args .a))
 pub loop-i-again : need.loop-i-again
 loop-i-again c =
     filled (c .args .c .now) (c .loop-i .c) (c .write .last .c) (c .args .a) (c .loop-i .i) (c .args .letters .now) (c .args .style) (c .args .change) (c .from .result)
-        (c .loop-i-test .taken) (c .from .ensures) (c .loop-i .inv .0) (c .loop-i .inv .1) (simp add-one at (c .write .ensures .written)) (c .write .ensures .kept)
+    (c .loop-i-test .taken) (c .from .ensures) (c .loop-i .inv .0) (c .loop-i .inv .1) (simp add-one at (c .write .ensures .written)) (c .write .ensures .kept)
 
 pub returns : need.returns
 returns c =
