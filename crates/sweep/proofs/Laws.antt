@@ -3,14 +3,12 @@ use mathlib.Core.Path.{_≡_, refl, sym, ap, _∙_}
 use mathlib.Core.Logic.{_≢_}
 use mathlib.Core.Bool.{Bool, true, false}
 use mathlib.Core.List.{List, [], _∷_, _++_}
-use Prim.Native.Nat.{ℕ, zero, suc, _+_, _-_, _*_, _≤_, _<_}
-use native.Mathlib.Nat.{add-zero, zero-add, add-suc, suc-add}
+use Prim.Native.Nat.{ℕ, zero, suc, _+_, _-_, _≤_, _<_}
 use native.Mathlib.Omega.{arith}
 use lib.Dec.{eqb, eqb·zero-suc, eqb·suc-suc}
-use lib.ListN.{length, getD, take, drop}
+use lib.ListN.{take, drop}
 use Rattle.std.proofs.shelf.Lists.{append-assoc, drop-drop, getD-past}
 use Rattle.model.specs.Paper.{pick, Cell, Change, author-of, strike, accept, reject, styled}
-use Rattle.pieces.specs.Edits.{replaced}
 use Rattle.changes.specs.Row.{change-at, changes-of}
 use Rattle.changes.proofs.Row.{change-in, length-changes}
 use Rattle.sweep.specs.declared.Action.{Action}

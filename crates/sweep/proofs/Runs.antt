@@ -1,15 +1,14 @@
 -- A sweep piece by piece: of a run, and of the whole text.
-use mathlib.Core.Path.{_≡_, refl, sym, ap, _∙_}
-use mathlib.Core.Logic.{_≢_}
-use mathlib.Core.List.{List, [], _∷_, _++_}
+use mathlib.Core.Path.{_≡_, sym, ap, _∙_}
+use mathlib.Core.List.{List, _++_}
 use Prim.Native.Nat.{ℕ, zero, suc, _+_, _-_, _*_, _≤_, _<_}
-use native.Mathlib.Nat.{add-zero, zero-add, add-suc, suc-add}
+use native.Mathlib.Nat.{add-zero, add-suc, suc-add}
 use native.Mathlib.Omega.{arith}
-use lib.ListN.{length, getD, take, drop}
+use lib.ListN.{length, take, drop}
 use lib.Seq.{take-add}
 use Rattle.std.proofs.shelf.Lists.{append-assoc, append-nil, length-append, length-drop, length-take-le, take-append-drop, take-append-le, take-all, drop-all, take-at, drop-at, drop-drop}
 use Rattle.model.specs.Paper.{Cell, Change}
-use Rattle.pieces.specs.Store.{used, piece, strung, cells-of, before, Order, Store, Frame, Located}
+use Rattle.pieces.specs.Store.{used, piece, strung, cells-of, before, Order, Located}
 use Rattle.pieces.specs.Edits.{replaced, Changed}
 use Rattle.pieces.proofs.Texts.{length-piece, length-text, drop-text}
 use Rattle.pieces.proofs.Change.{changed-text, length-replaced}

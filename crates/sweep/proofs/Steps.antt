@@ -1,20 +1,19 @@
 -- The steps of a sweep within one slot.
-use mathlib.Core.Path.{_≡_, refl, sym, ap, _∙_}
+use mathlib.Core.Path.{_≡_, sym, ap, _∙_}
 use mathlib.Core.List.{List, [], _∷_, _++_}
-use Prim.Native.Nat.{ℕ, zero, suc, _+_, _-_, _*_, _≤_, _<_}
-use native.Mathlib.Nat.{add-zero, zero-add, add-suc, suc-add}
+use Prim.Native.Nat.{ℕ, _+_, _-_, _*_, _≤_}
 use native.Mathlib.Omega.{arith}
-use lib.ListN.{length, getD, take, drop}
-use Rattle.std.proofs.shelf.Lists.{append-assoc, append-nil}
+use lib.ListN.{length, take, drop}
+use Rattle.std.proofs.shelf.Lists.{append-nil}
 use Rattle.model.specs.Paper.{Cell, Change}
 use Rattle.slots.specs.Cells.{cellAt, cellsAt, Kept}
 use Rattle.slots.proofs.Words.{length-cells, cells-split, cells-more, take-cells, drop-cells, kept-cell-above, kept-cells-below, kept-cells-above, kept-wider, kept-twice}
 use Rattle.pieces.specs.Store.{slot, used, piece}
-use Rattle.pieces.specs.Edits.{replaced, Filled}
+use Rattle.pieces.specs.Edits.{Filled}
 use Rattle.pieces.proofs.Change.{filled}
 use Rattle.sweep.specs.declared.Action.{Action}
 use Rattle.sweep.specs.Sweep.{fate, swept, swept-run}
-use Rattle.sweep.proofs.Laws.{swept-none, swept-append}
+use Rattle.sweep.proofs.Laws.{swept-append}
 
 -- one cell more
 pub swept-more : (a : Action) (cs : List Change) (xs : List Cell) (x : Cell) → swept a cs (xs ++ (x ∷ [])) ≡ swept a cs xs ++ fate a cs x

@@ -1,5 +1,5 @@
 // Strike, accept, reject and style over the cells of a store, said once: each is a sweep, which goes over cells in order, drops some and changes others.
-ghost use Prim.Native.Nat.{ℕ, suc, _+_, _-_, _*_, _<_, _≤_};
+ghost use Prim.Native.Nat.{suc, _+_, _-_, _*_, _<_, _≤_};
 ghost use Rattle.changes.specs.Row.{changes-of};
 ghost use Rattle.model.specs.Paper.{author-of, pick, touched as touches};
 ghost use Rattle.model.specs.Values.{cell-of};

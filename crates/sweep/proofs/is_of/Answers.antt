@@ -1,4 +1,4 @@
-use mathlib.Core.Path.{_≡_, sym, ap, _∙_}
+use mathlib.Core.Path.{ap}
 use native.Mathlib.Omega.{arith}
 use Rattle.changes.specs.Row.{changes-of}
 use Rattle.sweep.proofs.Laws.{of-none, of-row, of-past}

@@ -25,14 +25,13 @@ loop-k-again c =
     let s = c .args .s in
     let a = c .args .action in
     let cs = changes-of (c .args .changes .now) (c .args .row) in
-    let here : k < s = c .loop-k-test .taken in
-    (
+    let here : k < s = c .loop-k-test .taken in (
       c .sweep-piece .ensures .store,
       frame-both (c .args .c .now) (c .args .p .now) (c .loop-k .c) (c .loop-k .p) (c .sweep-piece .last .c) (c .sweep-piece .last .p) s (inv .1) (h .frame),
       below-more (λ j. piece (c .sweep-piece .last .c) (c .sweep-piece .last .p) j ≡ swept a cs (piece (c .args .c .now) (c .args .p .now) j)) k
           (λ j l. h .others j (omega arith) (omega arith) ∙ inv .2 j l)
           (piece-swept (c .loop-k .c) (c .loop-k .p) (c .sweep-piece .last .c) (c .sweep-piece .last .p) s k (c .used-has .result) a cs
-              (piece (c .args .c .now) (c .args .p .now) k) (c .used-has .ensures) h (inv .3 k (omega arith) here)),
+          (piece (c .args .c .now) (c .args .p .now) k) (c .used-has .ensures) h (inv .3 k (omega arith) here)),
       (λ j l m. h .others j m (omega arith) ∙ inv .3 j (omega arith) m),
     )
 

@@ -1,4 +1,4 @@
-use mathlib.Core.Path.{_≡_, refl}
+use mathlib.Core.Path.{refl}
 use native.Mathlib.Omega.{arith}
 use Rattle.changes.specs.Row.{changes-of}
 use Rattle.slots.specs.Cells.{cellsAt}
