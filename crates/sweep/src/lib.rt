@@ -14,6 +14,8 @@ ghost use mathlib.Core.Bool.{_||_};
 ghost use mathlib.Core.Path.{_≡_};
 use model::Cell;
 
+const HEAD: usize = 16;
+
 // What a sweep does to the cells it comes to.
 #[derive(Clone, Copy)]
 pub enum Action {
@@ -190,79 +192,71 @@ fn sweep_slot(
     left
 }
 
+// Where things stand in the words `w` that are lent beside the cells: the row of changes begins at word 16 and has `row` changes, and the tables
+// of a store of `slots` slots go from word `tables` on.
+#[derive(Clone, Copy)]
+pub struct Places {
+    pub row: usize,
+    pub tables: usize,
+    pub slots: usize,
+}
+
 // Sweeps `n` cells of piece `k`, from its cell `o` on. Returns how many of them are left.
-fn sweep_piece(
-    c: &mut [u32],
-    p: &mut [u32],
-    s: usize,
-    k: usize,
-    o: usize,
-    n: usize,
-    action: Action,
-    changes: &[u32],
-    row: usize,
-) -> usize
-    requires store { ⌜ Store (now c) (now p) s ⌝ }
-    requires here { ⌜ k < s ⌝ }
-    requires within { ⌜ o + n ≤ used (now p) k ⌝ }
-    requires row { ⌜ 2 * row ≤ length (now changes) ⌝ }
+fn sweep_piece(c: &mut [u32], w: &mut [u32], at: Places, k: usize, o: usize, n: usize, action: Action) -> usize
+    requires store { ⌜ Store (now c) (drop (at .tables) (now w)) (at .slots) ⌝ }
+    requires here { ⌜ k < at .slots ⌝ }
+    requires within { ⌜ o + n ≤ used (drop (at .tables) (now w)) k ⌝ }
+    requires row { ⌜ 16 + 2 * at .row ≤ at .tables ⌝ }
+    requires long { ⌜ at .tables ≤ length (now w) ⌝ }
     requires mark { ⌜ Writable action ⌝ }
-    ensures changed { λ _. ⌜ Changed (now (c .entry)) (now (p .entry)) (now (c .exit)) (now (p .exit)) s k (swept-run action (changes-of (now (changes .entry)) row) (piece (now (c .entry)) (now (p .entry)) k) o n) ⌝ }
-    ensures store { λ _. ⌜ Store (now (c .exit)) (now (p .exit)) s ⌝ }
-    ensures left { λ r. ⌜ r ≡ length (swept action (changes-of (now (changes .entry)) row) (take n (drop o (piece (now (c .entry)) (now (p .entry)) k)))) ⌝ }
+    ensures changed { λ _. ⌜ Changed (now (c .entry)) (drop (at .tables) (now (w .entry))) (now (c .exit)) (drop (at .tables) (now (w .exit))) (at .slots) k (swept-run action (changes-of (drop 16 (now (w .entry))) (at .row)) (piece (now (c .entry)) (drop (at .tables) (now (w .entry))) k) o n) ⌝ }
+    ensures store { λ _. ⌜ Store (now (c .exit)) (drop (at .tables) (now (w .exit))) (at .slots) ⌝ }
+    ensures left { λ r. ⌜ r ≡ length (swept action (changes-of (drop 16 (now (w .entry))) (at .row)) (take n (drop o (piece (now (c .entry)) (drop (at .tables) (now (w .entry))) k)))) ⌝ }
     ensures few { λ r. ⌜ r ≤ n ⌝ }
+    ensures head { λ _. ⌜ take (at .tables) (now (w .exit)) ≡ take (at .tables) (now (w .entry)) ⌝ }
 {
-    let left = sweep_slot(c, p, s, k, o, n, action, changes, row);
-    let has = pieces::used(p, k) - n + left;
-    pieces::resize(p, k, has);
+    let tables = at.tables;
+    let left = sweep_slot(c, &w[tables..], at.slots, k, o, n, action, &w[HEAD..], at.row);
+    let has = pieces::used(&w[tables..], k) - n + left;
+    pieces::resize(&mut w[tables..], k, has);
     left
 }
 
 // Sweeps the `n` cells of the text from `place` on.
-pub fn sweep_run(
-    c: &mut [u32],
-    p: &mut [u32],
-    s: usize,
-    place: usize,
-    n: usize,
-    action: Action,
-    changes: &[u32],
-    row: usize,
-)
-    requires store { ⌜ Store (now c) (now p) s ⌝ }
-    requires within { ⌜ place + n ≤ length (cells-of (now c) (now p) s) ⌝ }
-    requires row { ⌜ 2 * row ≤ length (now changes) ⌝ }
+pub fn sweep_run(c: &mut [u32], w: &mut [u32], at: Places, place: usize, n: usize, action: Action)
+    requires store { ⌜ Store (now c) (drop (at .tables) (now w)) (at .slots) ⌝ }
+    requires within { ⌜ place + n ≤ length (cells-of (now c) (drop (at .tables) (now w)) (at .slots)) ⌝ }
+    requires row { ⌜ 16 + 2 * at .row ≤ at .tables ⌝ }
+    requires long { ⌜ at .tables ≤ length (now w) ⌝ }
     requires mark { ⌜ Writable action ⌝ }
-    ensures { λ _. ⌜ Edited (now (c .entry)) (now (p .entry)) (now (c .exit)) (now (p .exit)) s (swept-run action (changes-of (now (changes .entry)) row) (cells-of (now (c .entry)) (now (p .entry)) s) place n) ⌝ }
+    ensures edited { λ _. ⌜ Edited (now (c .entry)) (drop (at .tables) (now (w .entry))) (now (c .exit)) (drop (at .tables) (now (w .exit))) (at .slots) (swept-run action (changes-of (drop 16 (now (w .entry))) (at .row)) (cells-of (now (c .entry)) (drop (at .tables) (now (w .entry))) (at .slots)) place n) ⌝ }
+    ensures head { λ _. ⌜ take (at .tables) (now (w .exit)) ≡ take (at .tables) (now (w .entry)) ⌝ }
 {
-    let mut at = place;
+    let tables = at.tables;
+    let mut next = place;
     let mut left = n;
     while left > 0 {
-        let spot = pieces::locate(p, s, at);
-        let has = pieces::used(p, spot.piece) - spot.offset;
+        let spot = pieces::locate(&w[tables..], at.slots, next);
+        let has = pieces::used(&w[tables..], spot.piece) - spot.offset;
         let m = left.min(has);
-        at += sweep_piece(c, p, s, spot.piece, spot.offset, m, action, changes, row);
+        next += sweep_piece(c, w, at, spot.piece, spot.offset, m, action);
         left -= m;
     }
 }
 
 // Sweeps all cells of the text.
-pub fn sweep_all(
-    c: &mut [u32],
-    p: &mut [u32],
-    s: usize,
-    action: Action,
-    changes: &[u32],
-    row: usize,
-)
-    requires store { ⌜ Store (now c) (now p) s ⌝ }
-    requires row { ⌜ 2 * row ≤ length (now changes) ⌝ }
+pub fn sweep_all(c: &mut [u32], w: &mut [u32], at: Places, action: Action)
+    requires store { ⌜ Store (now c) (drop (at .tables) (now w)) (at .slots) ⌝ }
+    requires row { ⌜ 16 + 2 * at .row ≤ at .tables ⌝ }
+    requires long { ⌜ at .tables ≤ length (now w) ⌝ }
     requires mark { ⌜ Writable action ⌝ }
-    ensures { λ _. ⌜ Edited (now (c .entry)) (now (p .entry)) (now (c .exit)) (now (p .exit)) s (swept action (changes-of (now (changes .entry)) row) (cells-of (now (c .entry)) (now (p .entry)) s)) ⌝ }
+    ensures edited { λ _. ⌜ Edited (now (c .entry)) (drop (at .tables) (now (w .entry))) (now (c .exit)) (drop (at .tables) (now (w .exit))) (at .slots) (swept action (changes-of (drop 16 (now (w .entry))) (at .row)) (cells-of (now (c .entry)) (drop (at .tables) (now (w .entry))) (at .slots))) ⌝ }
+    ensures head { λ _. ⌜ take (at .tables) (now (w .exit)) ≡ take (at .tables) (now (w .entry)) ⌝ }
 {
-    for k in 0..s {
-        let has = pieces::used(p, k);
-        sweep_piece(c, p, s, k, 0, has, action, changes, row);
+    let tables = at.tables;
+    for k in 0..at.slots {
+        let has = pieces::used(&w[tables..], k);
+        sweep_piece(c, w, at, k, 0, has, action);
     }
 }
 

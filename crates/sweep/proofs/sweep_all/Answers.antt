@@ -1,46 +1,68 @@
 use mathlib.Core.Path.{_≡_, refl, _∙_}
-use Prim.Native.Nat.{_<_}
+use Prim.Native.Nat.{_≤_, _<_}
 use native.Mathlib.Nat.{zero-add}
 use native.Mathlib.Omega.{arith}
 use borrow.Author.Count.{below-more}
+use lib.ListN.{drop}
+use Rattle.std.proofs.shelf.Lists.{take-rest}
 use Rattle.changes.specs.Row.{changes-of}
-use Rattle.pieces.specs.Store.{piece}
+use Rattle.pieces.specs.Store.{piece, used}
 use Rattle.pieces.proofs.Change.{frame-none, frame-both}
 use Rattle.sweep.specs.Sweep.{swept}
+use Rattle.sweep.proofs.Ahead.{row-kept}
 use Rattle.sweep.proofs.Runs.{piece-swept, strung-swept}
 use Rattle.sweep.proofs.sweep_all.Needs as need
 
 pub loop-k-holds : need.loop-k-holds
-loop-k-holds c = (c .pre .store, frame-none (c .args .c .now) (c .args .p .now) (c .args .s), (λ j l. absurd (omega arith)), (λ j l m. refl))
+loop-k-holds c = (c .pre .store, frame-none (c .args .c .now) (drop (c .args .at .tables) (c .args .w .now)) (c .args .at .slots), (λ j l. absurd (omega arith)), (λ j l m. refl), refl, refl)
+
+pub used-has-requires : need.used-has-requires
+used-has-requires c κs =
+    let inv = c .loop-k .inv in
+    simp take-rest record { leaf = omega (arith, c .loop-k-test .taken, inv .0 .table .order .most); words = inv .0 .table .order .words }
 
 pub sweep-piece-requires : need.sweep-piece-requires
 sweep-piece-requires c κs =
-    record { store = c .loop-k .inv .0; here = c .loop-k-test .taken; within = omega arith; row = c .pre .row; mark = c .pre .mark }
+    let inv = c .loop-k .inv in
+    let is : c .used-has .result ≡ used (drop (c .args .at .tables) (c .loop-k .w)) (c .loop-k .k) = simp take-rest at (c .used-has .ensures) in
+    record { store = inv .0; here = c .loop-k-test .taken; within = omega arith; row = c .pre .row; long = omega (arith, inv .5, c .pre .long); mark = c .pre .mark }
 
 pub loop-k-again : need.loop-k-again
 loop-k-again c =
     let inv = c .loop-k .inv in
-    let h = c .sweep-piece .ensures .changed in
+    let t = c .args .at .tables in
+    let p = drop t (c .args .w .now) in
+    let q = drop t (c .loop-k .w) in
+    let r = drop t (c .sweep-piece .last .w) in
     let k = c .loop-k .k in
-    let s = c .args .s in
+    let s = c .args .at .slots in
     let a = c .args .action in
-    let cs = changes-of (c .args .changes .now) (c .args .row) in
-    let here : k < s = c .loop-k-test .taken in (
+    let cs = changes-of (drop 16 (c .args .w .now)) (c .args .at .row) in
+    let row : changes-of (drop 16 (c .loop-k .w)) (c .args .at .row) ≡ cs = row-kept (c .loop-k .w) (c .args .w .now) t (c .args .at .row) (c .pre .row) (inv .4) in
+    let h = rw row at (c .sweep-piece .ensures .changed) in
+    let is : c .used-has .result ≡ used q k = simp take-rest at (c .used-has .ensures) in
+    let here : k < s = c .loop-k-test .taken in
+    (
       c .sweep-piece .ensures .store,
-      frame-both (c .args .c .now) (c .args .p .now) (c .loop-k .c) (c .loop-k .p) (c .sweep-piece .last .c) (c .sweep-piece .last .p) s (inv .1) (h .frame),
-      below-more (λ j. piece (c .sweep-piece .last .c) (c .sweep-piece .last .p) j ≡ swept a cs (piece (c .args .c .now) (c .args .p .now) j)) k
+      frame-both (c .args .c .now) p (c .loop-k .c) q (c .sweep-piece .last .c) r s (inv .1) (h .frame),
+      below-more (λ j. piece (c .sweep-piece .last .c) r j ≡ swept a cs (piece (c .args .c .now) p j)) k
           (λ j l. h .others j (omega arith) (omega arith) ∙ inv .2 j l)
-          (piece-swept (c .loop-k .c) (c .loop-k .p) (c .sweep-piece .last .c) (c .sweep-piece .last .p) s k (c .used-has .result) a cs
-          (piece (c .args .c .now) (c .args .p .now) k) (c .used-has .ensures) h (inv .3 k (omega arith) here)),
+          (piece-swept (c .loop-k .c) q (c .sweep-piece .last .c) r s k (c .used-has .result) a cs (piece (c .args .c .now) p k) is h (inv .3 k (omega arith) here)),
       (λ j l m. h .others j m (omega arith) ∙ inv .3 j (omega arith) m),
+      c .sweep-piece .ensures .head ∙ inv .4,
+      c .sweep-piece .kept .w ∙ inv .5,
     )
 
 pub returns : need.returns
 returns c =
     let inv = c .loop-k .inv in
+    let p = drop (c .args .at .tables) (c .args .w .now) in
     record {
-      store = inv .0;
-      frame = inv .1;
-      text = strung-swept (c .args .action) (changes-of (c .args .changes .now) (c .args .row)) (piece (c .args .c .now) (c .args .p .now)) (piece (c .loop-k .c) (c .loop-k .p)) 0 (c .args .s)
-          (λ i l. simp zero-add (inv .2 i (omega arith)));
+      edited = record {
+        store = inv .0;
+        frame = inv .1;
+        text = strung-swept (c .args .action) (changes-of (drop 16 (c .args .w .now)) (c .args .at .row)) (piece (c .args .c .now) p) (piece (c .loop-k .c) (drop (c .args .at .tables) (c .loop-k .w))) 0 (c .args .at .slots)
+            (λ i l. simp zero-add (inv .2 i (omega arith)))
+      };
+      head = inv .4
     }
