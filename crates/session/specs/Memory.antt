@@ -3,20 +3,20 @@
 -- each, for as many as the limit allows; after them the tables of the store. undo: nothing in this stage.
 -- Definitions only: nothing is assumed.
 use mathlib.Core.Path.{_≡_}
-use mathlib.Core.Bool.{Bool}
+use mathlib.Core.Bool.{Bool, _||_}
+use lib.Dec.{leb, eqb}
 use mathlib.Core.List.{List, [], _∷_, _++_}
 use Prim.Native.Nat.{ℕ, _+_, _-_, _*_, _/_, _≤_}
 use lib.ListN.{length, getD, drop, replicate}
 use Rattle.std.specs.Iters.{counting}
 use Rattle.model.specs.Paper.{Paper}
 use Rattle.model.specs.Calls.{Desk, Limits}
-use Rattle.model.specs.Promise.{thin}
 use Rattle.changes.specs.Row.{changes-of}
 use Rattle.pieces.specs.Store.{Store, cells-of}
 
--- which calls can be done, by number
+-- which calls can be done, by number: all but undo, redo, find and save
 abbrev pub stage : ℕ → Bool
-stage = thin
+stage k = leb k 4 || (eqb k 7 || (eqb k 9 || eqb k 10))
 
 -- how many slots of 1,024 cells there are for so many cells
 abbrev pub slots-for : ℕ → ℕ

@@ -11,16 +11,16 @@ use Rattle.codec.specs.declared.Call.the-variants.{Put, Strike, Accept, Reject,
 -- the calls that this stage can do
 abbrev pub can : Call → Bool
 can (Put author place style) = true
-can (Strike author place count) = false
-can (Accept change) = false
-can (Reject change) = false
-can (Style place count style) = false
+can (Strike author place count) = true
+can (Accept change) = true
+can (Reject change) = true
+can (Style place count style) = true
 can Undo = false
 can Redo = false
 can (Show way width row count) = true
 can (Find way from) = false
 can (Count way) = true
-can (Change change) = false
+can (Change change) = true
 can (Save from count) = false
 
 -- at least one, and at most so many

@@ -11,10 +11,11 @@ pub fn can(call: Call) -> bool
     ensures { λ r. ⌜ r ≡ stage-can call ⌝ }
 {
     match call {
-        Call::Put { .. } => true,
-        Call::Show { .. } => true,
-        Call::Count { .. } => true,
-        _ => false,
+        Call::Undo => false,
+        Call::Redo => false,
+        Call::Find { .. } => false,
+        Call::Save { .. } => false,
+        _ => true,
     }
 }
 
