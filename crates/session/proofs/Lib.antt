@@ -1,5 +1,6 @@
 mod Acting
 mod Heads
+mod Judging
 mod Keeping
 mod Looking
 mod Opening
@@ -7,4 +8,5 @@ mod Putting
 mod Ranges
 mod Saying
 mod Serving
+mod Striking
 mod Writing

@@ -26,7 +26,7 @@ length-view k (x ∷ xs) = kept (seen k x) x (view k xs) (length xs) (length-vie
     kept false x ys n h = omega arith
 
 -- a paper in memory is within its limits
-fits-now : (cs ps : List ℕ) → Held cs ps → fits (limits-of ps) (paper-of cs ps) ≡ true
+pub fits-now : (cs ps : List ℕ) → Held cs ps → fits (limits-of ps) (paper-of cs ps) ≡ true
 fits-now cs ps held =
     let n : length (paper-of cs ps .changes) ≡ getD ps 3 0 = length-changes (drop 16 ps) 0 (getD ps 3 0) in
     let few : length (paper-of cs ps .changes) ≤ getD ps 1 0 = omega (arith, held .changes-fit) in

@@ -15,13 +15,19 @@ use Rattle.changes.proofs.Row.{length-changes}
 use Rattle.pieces.specs.Store.{before, Store}
 use Rattle.pieces.proofs.Texts.{length-text}
 use Rattle.session.specs.Memory.{limits-of, slots-of, tables, paper-of, Held}
-use Rattle.session.specs.Acts.{Wrote, desk-of, Acted, Noted, allows, with-cells}
+use Rattle.session.specs.Acts.{Wrote, desk-of, Acted, Rowed, allows, row-of, with-cells}
 use Rattle.session.proofs.Acting.{turned-first, turned-last, turned-not, refuses, wrote-it}
-use Rattle.session.proofs.Writing.{inserted-length, noted-too}
+use Rattle.session.proofs.Writing.{inserted-length, rowed-too}
 
 pub both-true : (a b : Bool) → (a && b) ≡ true → (a ≡ true) × (b ≡ true)
 both-true true b h = (refl, h)
 both-true false b h = let z : _≡_ {A = Bool} false true = h in (z, cc)
+
+-- the number of changes is as it was while cells are written
+pub still : (cs ps cs′ ps′ : List ℕ) (xs : List Cell) → Wrote cs ps cs′ ps′ (with-cells (paper-of cs ps) xs) → (getD ps′ 3 0 ≡ getD ps 3 0) × (getD ps′ 1 0 ≡ getD ps 1 0)
+still cs ps cs′ ps′ xs w =
+    let a : length (paper-of cs′ ps′ .changes) ≡ length (paper-of cs ps .changes) = ap (λ (p : Paper). length (p .changes)) (w .paper) in
+    (sym (length-changes (drop 16 ps′) 0 (getD ps′ 3 0)) ∙ (a ∙ length-changes (drop 16 ps) 0 (getD ps 3 0)), ap (λ (l : Limits). l .changes) (w .limits))
 
 module _ (cs ps : List ℕ) (held : Held cs ps) (a i s : ℕ) (ls : List ℕ) (good : good-fields (put a i s ls) ≡ true) where
   pub cells-counted : length (paper-of cs ps .cells) ≡ before (tables ps) (slots-of ps)
@@ -75,20 +81,13 @@ module _ (cs ps : List ℕ) (held : Held cs ps) (a i s : ℕ) (ls : List ℕ) (g
       let n : getD ps 3 0 < getD ps 1 0 = ltb-true (getD ps 3 0) (getD ps 1 0) (e .1) in
       (omega (arith, cells-counted), n)
 
-  -- the number of changes is as it was while letters are put in
-  pub still : (cs′ ps′ : List ℕ) (xs : List Cell) → Wrote cs ps cs′ ps′ (with-cells (paper-of cs ps) xs) → (getD ps′ 3 0 ≡ getD ps 3 0) × (getD ps′ 1 0 ≡ getD ps 1 0)
-  still cs′ ps′ xs w =
-      let a : length (paper-of cs′ ps′ .changes) ≡ length (paper-of cs ps .changes) = ap (λ (p : Paper). length (p .changes)) (w .paper) in
-      (sym (length-changes (drop 16 ps′) 0 (getD ps′ 3 0)) ∙ (a ∙ changes-counted), ap (λ (l : Limits). l .changes) (w .limits))
-
   pub put-done : (cs′ ps′ qs : List ℕ) → leb i (before (tables ps) (slots-of ps)) ≡ true → allows ps (before (tables ps) (slots-of ps) + length ls) ≡ true →
       Wrote cs ps cs′ ps′ (with-cells (paper-of cs ps) (take i (paper-of cs ps .cells) ++ (new-cells ls s (getD ps 3 0) ++ drop i (paper-of cs ps .cells)))) →
-      Noted ps′ qs a → Acted cs ps (put a i s ls) cs′ qs (number (getD ps 3 0))
+      Rowed ps′ qs (row-of ps′ ++ (record { author = a; became = 0 } ∷ [])) → Acted cs ps (put a i s ls) cs′ qs (number (getD ps 3 0))
   unfolding told writes rewritten
   put-done cs′ ps′ qs h k w note =
       let xs : List Cell = take i (paper-of cs ps .cells) ++ (new-cells ls s (getD ps 3 0) ++ drop i (paper-of cs ps .cells)) in
-      let same : (getD ps′ 3 0 ≡ getD ps 3 0) × (getD ps′ 1 0 ≡ getD ps 1 0) = still cs′ ps′ xs w in
-      let less : getD ps′ 3 0 < getD ps′ 1 0 = omega (arith, same .0, same .1, put-room k .1) in
+      let row : row-of ps′ ≡ paper-of cs ps .changes = ap (λ (p : Paper). p .changes) (w .paper) in
       let t : turned (limits-of ps) (desk-of cs ps) (put a i s ls) ≡ 0 = turned-not (limits-of ps) (desk-of cs ps) (put a i s ls) good-put (there h) (fit ∙ k) in
       let p : Paper = paper-of cs ps in
       let with : ℕ → Paper = λ n. record {
@@ -96,6 +95,7 @@ module _ (cs ps : List ℕ) (held : Held cs ps) (a i s : ℕ) (ls : List ℕ) (g
         changes = p .changes ++ (record { author = a; became = 0 } ∷ []);
       } in
       let all : Wrote cs ps cs′ qs (with (getD ps 3 0)) =
-      noted-too cs ps cs′ ps′ qs (with-cells p xs) a w note less in
+          rowed-too cs ps cs′ ps′ qs (with-cells p xs) (p .changes ++ (record { author = a; became = 0 } ∷ [])) w
+          (subst (λ (rs : List Change). Rowed ps′ qs (rs ++ (record { author = a; became = 0 } ∷ []))) row note) in
       let done : Wrote cs ps cs′ qs (rewritten p (put a i s ls)) = subst (λ (n : ℕ). Wrote cs ps cs′ qs (with n)) (sym changes-counted) all in
       subst (λ (n : ℕ). Acted cs ps (put a i s ls) cs′ qs (number n)) changes-counted (wrote-it cs ps cs′ qs (put a i s ls) t refl done)

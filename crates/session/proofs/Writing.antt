@@ -10,9 +10,9 @@ use Rattle.model.specs.Paper.{Cell, Change, Paper, new-cells}
 use Rattle.model.specs.Calls.{Limits}
 use Rattle.changes.specs.Row.{changes-of}
 use Rattle.changes.proofs.Row.{changes-same}
-use Rattle.pieces.specs.Store.{Store, Frame, cells-of}
+use Rattle.pieces.specs.Store.{Edited, Store, Frame, cells-of}
 use Rattle.session.specs.Memory.{stage, slots-for, cells-words, pieces-words, limits-of, tables, paper-of, Held}
-use Rattle.session.specs.Acts.{Wrote, Noted, with-cells}
+use Rattle.session.specs.Acts.{Wrote, Rowed, with-cells}
 use Rattle.session.proofs.Heads.{lent, lent-before, lent-after}
 
 pub length-new : (ls : List ℕ) (s c : ℕ) → length (new-cells ls s c) ≡ length ls
@@ -80,10 +80,20 @@ restored cs ps cs′ t xs held store frame text few =
       pieces-length = long;
     }
 
--- a change was noted after that
-pub noted-too : (cs ps cs′ ps′ qs : List ℕ) (p : Paper) (a : ℕ) → Wrote cs ps cs′ ps′ p → Noted ps′ qs a → getD ps′ 3 0 < getD ps′ 1 0 →
-    Wrote cs ps cs′ qs (record { cells = p .cells; changes = p .changes ++ (record { author = a; became = 0 } ∷ []) })
-noted-too cs ps cs′ ps′ qs p a w note room =
+-- the same where a function that knows the whole slice wrote the tables alone
+pub swept-too : (cs ps cs′ ps′ : List ℕ) (xs : List Cell) → Held cs ps → let b : ℕ = 16 + 2 * getD ps 1 0 in let s : ℕ = slots-for (getD ps 0 0) in
+    Edited cs (tables ps) cs′ (drop b ps′) s xs → take b ps′ ≡ take b ps → length xs ≤ getD ps 0 0 → Wrote cs ps cs′ ps′ (with-cells (paper-of cs ps) xs)
+swept-too cs ps cs′ ps′ xs held edited head few =
+    let b : ℕ = 16 + 2 * getD ps 1 0 in
+    let start : b ≤ length ps = omega (arith, held .pieces-long) in
+    let is : putMid b (length ps - b) ps (drop b ps′) ≡ ps′ =
+        lent b ps (drop b ps′) start ∙ (ap (λ (ws : List ℕ). ws ++ drop b ps′) (sym head) ∙ take-append-drop b ps′) in
+    subst (λ (qs : List ℕ). Wrote cs ps cs′ qs (with-cells (paper-of cs ps) xs)) is (restored cs ps cs′ (drop b ps′) xs held (edited .store) (edited .frame) (edited .text) few)
+
+-- the row of changes was written after that
+pub rowed-too : (cs ps cs′ ps′ qs : List ℕ) (p : Paper) (rows : List Change) → Wrote cs ps cs′ ps′ p → Rowed ps′ qs rows →
+    Wrote cs ps cs′ qs (record { cells = p .cells; changes = rows })
+rowed-too cs ps cs′ ps′ qs p rows w note =
     let held : Held cs′ ps′ = w .held in
     let g0 : getD qs 0 0 ≡ getD ps′ 0 0 = ap (λ (l : Limits). l .cells) (note .limits) in
     let g1 : getD qs 1 0 ≡ getD ps′ 1 0 = ap (λ (l : Limits). l .changes) (note .limits) in
@@ -93,7 +103,6 @@ noted-too cs ps cs′ ps′ qs p a w note room =
     let cells : cells-of cs′ (tables qs) (slots-for (getD qs 0 0)) ≡ paper-of cs′ ps′ .cells = rw (note .tables, slots) refl in
     let paper : paper-of cs′ ps′ ≡ p = w .paper in
     let xs : paper-of cs′ ps′ .cells ≡ p .cells = ap (λ (r : Paper). r .cells) paper in
-    let ys : paper-of cs′ ps′ .changes ≡ p .changes = ap (λ (r : Paper). r .changes) paper in
     let c : ℕ = getD ps 1 0 in
     let b : ℕ = 16 + 2 * c in
     let e : 6160 + 2 * c ≡ b + 6144 = omega arith in
@@ -110,10 +119,10 @@ noted-too cs ps cs′ ps′ qs p a w note room =
         pieces-long = omega (arith, held .pieces-long, note .words);
         store = rw (note .tables, slots) (held .store);
         cells-fit = rw (cells, g0) (held .cells-fit);
-        changes-fit = omega (arith, note .number);
+        changes-fit = note .fits;
       };
       limits = note .limits ∙ w .limits;
-      paper = let rows = note .changes in cc;
+      paper = let ys = note .changes in cc;
       cells-beyond = w .cells-beyond;
       pieces-beyond = past;
       cells-length = w .cells-length;

@@ -1,12 +1,16 @@
 -- What the functions under `call` promise: they know the paper's part of memory alone. Definitions only: nothing is assumed.
 use mathlib.Core.Path.{_≡_}
 use mathlib.Core.List.{List, [], _∷_, _++_}
-use Prim.Native.Nat.{ℕ, _+_, _<_}
+use Prim.Native.Nat.{ℕ, _+_, _≤_, _<_}
 use mathlib.Core.Bool.{Bool, _&&_}
 use lib.Dec.{leb, ltb}
 use lib.ListN.{length, getD, drop}
-use Rattle.model.specs.Paper.{Cell, Paper}
-use Rattle.model.specs.Calls.{Call, Answer, Desk, turned, after, answer}
+use Rattle.model.specs.Paper.{Cell, Change, Paper}
+use Rattle.model.specs.Calls.{Call, accepts, rejects, Answer, Desk, turned, after, answer}
+use Rattle.sweep.specs.declared.Action.{Action}
+use Rattle.sweep.specs.declared.Action.the-variants.{Accept, Reject}
+use Rattle.session.specs.declared.deciding.Verdict.{Verdict}
+use Rattle.session.specs.declared.deciding.Verdict.the-variants.{Accepted, Rejected}
 use Rattle.codec.specs.Bytes.{answer-bytes}
 use Rattle.changes.specs.Row.{changes-of}
 use Rattle.session.specs.Memory.{cells-words, pieces-words, limits-of, tables as tables-of, paper-of, Held}
@@ -31,13 +35,17 @@ pub record Acted (cs ps : List ℕ) (c : Call) (cs′ ps′ : List ℕ) (a : Ans
   pub says : a ≡ answer (limits-of ps) (desk-of cs ps) c
   pub kept : 0 < turned (limits-of ps) (desk-of cs ps) c → (cs′ ≡ cs) × (ps′ ≡ ps)
 
--- From ps to qs one change was added, of the author a, which is open; the tables and the limits are as they were.
-pub record Noted (ps qs : List ℕ) (a : ℕ) : Type 0 where
+-- From ps to qs the row of changes became `rows`; the tables and the limits are as they were.
+pub record Rowed (ps qs : List ℕ) (rows : List Change) : Type 0 where
   pub limits : limits-of qs ≡ limits-of ps
   pub tables : tables-of qs ≡ tables-of ps
-  pub changes : changes-of (drop 16 qs) (getD qs 3 0) ≡ changes-of (drop 16 ps) (getD ps 3 0) ++ (record { author = a; became = 0 } ∷ [])
-  pub number : getD qs 3 0 ≡ getD ps 3 0 + 1
+  pub changes : changes-of (drop 16 qs) (getD qs 3 0) ≡ rows
+  pub fits : getD qs 3 0 ≤ getD qs 1 0
   pub words : length qs ≡ length ps
+
+-- the row of changes in memory
+abbrev pub row-of : List ℕ → List Change
+row-of ps = changes-of (drop 16 ps) (getD ps 3 0)
 
 -- the paper p with other cells
 abbrev pub with-cells : Paper → List Cell → Paper
@@ -52,3 +60,16 @@ pub record Said (cs ps : List ℕ) (c : Call) (cs′ ps′ out out′ : List ℕ
   pub acted : Acted cs ps c cs′ ps′ (answer (limits-of ps) (desk-of cs ps) c)
   pub bytes : out′ ≡ answer-bytes (answer (limits-of ps) (desk-of cs ps) c) ++ drop r out
   pub long : r ≡ length (answer-bytes (answer (limits-of ps) (desk-of cs ps) c))
+
+-- the call that a verdict is, and what then became of the change
+abbrev pub verdict-call : Verdict → ℕ → Call
+verdict-call Accepted c = accepts c
+verdict-call Rejected c = rejects c
+
+abbrev pub verdict-became : Verdict → ℕ
+verdict-became Accepted = 1
+verdict-became Rejected = 2
+
+abbrev pub verdict-action : Verdict → ℕ → Action
+verdict-action Accepted c = Accept c
+verdict-action Rejected c = Reject c

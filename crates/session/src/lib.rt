@@ -3,7 +3,7 @@
 ghost use Prim.Native.Nat.{ℕ, _*_, _+_, _<_, _≤_, min};
 ghost use Rattle.model.specs.Paper.{new-cells};
 ghost use Rattle.pieces.specs.Store.{Table, before};
-ghost use Rattle.session.specs.Acts.{Acted, Noted, Said, Wrote, allows, with-cells};
+ghost use Rattle.session.specs.Acts.{Acted, Rowed, Said, Wrote, allows, row-of, with-cells};
 ghost use Rattle.model.specs.Calls.{count as counts, good-fields, put as puts, show as shows};
 ghost use Rattle.codec.specs.Values.{meaning, told};
 ghost use Rattle.session.specs.Contract.{Called, Opening};
@@ -13,9 +13,10 @@ ghost use Rattle.std.specs.declared.option.Option.the-variants.{None, Some};
 ghost use lib.Dec.{leb};
 ghost use lib.ListN.{drop, getD, length, replicate, take};
 ghost use mathlib.Core.Bool.{false, true};
-ghost use mathlib.Core.List.{_++_, _∷_};
+ghost use mathlib.Core.List.{[], _++_, _∷_};
 ghost use mathlib.Core.Path.{_≡_};
 
+mod deciding;
 mod range;
 
 use codec::Answer;
@@ -315,7 +316,7 @@ fn add_change(pieces: &mut [u32], author: u32)
     requires room { ⌜ getD (now pieces) 3 0 < getD (now pieces) 1 0 ⌝ }
     requires few { ⌜ getD (now pieces) 1 0 ≤ 65536 ⌝ }
     requires long { ⌜ 16 + 2 * getD (now pieces) 1 0 ≤ length (now pieces) ⌝ }
-    ensures { λ _. ⌜ Noted (now (pieces .entry)) (now (pieces .exit)) author ⌝ }
+    ensures { λ _. ⌜ Rowed (now (pieces .entry)) (now (pieces .exit)) (row-of (now (pieces .entry)) ++ (record { author = author; became = 0 } ∷ [])) ⌝ }
 {
     let number = pieces[3];
     changes::add(&mut pieces[HEAD..], number as usize, author);

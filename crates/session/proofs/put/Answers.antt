@@ -65,7 +65,7 @@ add-change-requires c κs =
     let r : (length (paper-of cs ps .cells) + length ls ≤ getD ps 0 0) × (getD ps 3 0 < getD ps 1 0) =
     put-room cs ps (c .pre .held) (c .args .author) (c .args .place) (c .args .style) ls (c .pre .good) k in
     let same : (getD (c .insert .last .pieces) 3 0 ≡ getD ps 3 0) × (getD (c .insert .last .pieces) 1 0 ≡ getD ps 1 0) =
-    still cs ps (c .pre .held) (c .args .author) (c .args .place) (c .args .style) ls (c .pre .good) (c .insert .last .cells) (c .insert .last .pieces)
+    still cs ps (c .insert .last .cells) (c .insert .last .pieces)
     (take (c .in-Some .at) (paper-of cs ps .cells) ++ (new-cells ls (c .args .style) (c .in-Some-room .number) ++ drop (c .in-Some .at) (paper-of cs ps .cells))) (c .insert .ensures) in
     record {
       room = omega (arith, same .0, same .1, r .1);
