@@ -82,21 +82,16 @@ module _ {cs ps : List ℕ} (held : Held cs ps) {n : ℕ} (counts : n ≡ before
   unfolding place
   put-too-much h k = refuses cs ps (put a i s ls) 8 held (turned-last (limits-of ps) (desk-of cs ps) (put a i s ls) good-put (there h) (fit ∙ k))
 
-  pub put-done : {cs′ ps′ qs : List ℕ} → leb i n ≡ true → allows ps (n + length ls) ≡ true →
-      Wrote cs ps cs′ ps′ (with-cells (paper-of cs ps) (take i (paper-of cs ps .cells) ++ (new-cells ls s (getD ps 3 0) ++ drop i (paper-of cs ps .cells)))) →
-      Noted ps′ qs a → Acted cs ps (put a i s ls) cs′ qs (number (getD ps 3 0))
+  pub put-done : {cs′ ps′ qs : List ℕ} {at m : ℕ} → at ≡ i → m ≡ getD ps 3 0 → leb i n ≡ true → allows ps (n + length ls) ≡ true →
+      Wrote cs ps cs′ ps′ (with-cells (paper-of cs ps) (take at (paper-of cs ps .cells) ++ (new-cells ls s m ++ drop at (paper-of cs ps .cells)))) →
+      Noted ps′ qs a → Acted cs ps (put a i s ls) cs′ qs (number m)
   unfolding told writes rewritten
-  put-done {cs′} {ps′} {qs} h k w note =
-      let xs : List Cell = take i (paper-of cs ps .cells) ++ (new-cells ls s (getD ps 3 0) ++ drop i (paper-of cs ps .cells)) in
+  put-done {cs′} {ps′} {qs} {at} {m} e f h k w note =
+      let p : Paper = paper-of cs ps in
       let same : (getD ps′ 3 0 ≡ getD ps 3 0) × (getD ps′ 1 0 ≡ getD ps 1 0) = still w in
       let less : getD ps′ 3 0 < getD ps′ 1 0 = omega (arith, same .0, same .1, put-room held counts ls k .1) in
       let t : turned (limits-of ps) (desk-of cs ps) (put a i s ls) ≡ 0 = turned-not (limits-of ps) (desk-of cs ps) (put a i s ls) good-put (there h) (fit ∙ k) in
-      let p : Paper = paper-of cs ps in
-      let with : ℕ → Paper = λ m. record {
-        cells = take i (p .cells) ++ (new-cells ls s m ++ drop i (p .cells));
-        changes = p .changes ++ (record { author = a; became = 0 } ∷ []);
-      } in
-      let all : Wrote cs ps cs′ qs (with (getD ps 3 0)) =
-      noted-too cs ps cs′ ps′ qs (with-cells p xs) a w note less in
-      let done : Wrote cs ps cs′ qs (rewritten p (put a i s ls)) = subst (λ (m : ℕ). Wrote cs ps cs′ qs (with m)) (sym (changes-counted cs ps)) all in
-      subst (λ (m : ℕ). Acted cs ps (put a i s ls) cs′ qs (number m)) (changes-counted cs ps) (wrote-it cs ps cs′ qs (put a i s ls) t refl done)
+      let new : m ≡ length (p .changes) = f ∙ sym (changes-counted cs ps) in
+      let done : Wrote cs ps cs′ qs (rewritten p (put a i s ls)) =
+      rw (e, new) at (noted-too cs ps cs′ ps′ qs (with-cells p (take at (p .cells) ++ (new-cells ls s m ++ drop at (p .cells)))) a w note less) in
+      rw new (wrote-it cs ps cs′ qs (put a i s ls) t refl done)

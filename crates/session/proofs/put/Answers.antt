@@ -1,12 +1,7 @@
-use mathlib.Core.Path.{_≡_}
-use Prim.Native.Nat.{ℕ, _+_, _≤_, _<_}
+use Prim.Native.Nat.{_≤_}
 use native.Mathlib.Omega.{arith}
 use borrow.Author.Tests.{leb-true}
-use lib.ListN.{length, getD, take, drop}
-use mathlib.Core.List.{_++_}
-use Rattle.model.specs.Paper.{new-cells}
-use Rattle.session.specs.Acts.{Wrote, with-cells}
-use Rattle.session.specs.Memory.{paper-of}
+use lib.ListN.{length}
 use Rattle.session.proofs.Putting.{cells-counted, put-done, put-few, put-nowhere, put-room, put-too-much, still}
 use Rattle.session.proofs.put.Needs as need
 
@@ -45,12 +40,5 @@ add-change-requires c κs =
 
 pub returns : need.returns
 returns c =
-    let cs = c .args .cells .now in
-    let ps = c .args .pieces .now in
-    let i = c .args .place in
-    let xs = paper-of cs ps .cells in
-    let at : c .in-Some .at ≡ i = c .in-Some .ensures tt .0 in
-    let number : c .in-Some-room .number ≡ getD ps 3 0 = c .in-Some-room .ensures tt .0 in
-    let wrote : Wrote cs ps (c .insert .last .cells) (c .insert .last .pieces) (with-cells (paper-of cs ps) (take i xs ++ (new-cells (c .args .letters .now) (c .args .style) (getD ps 3 0) ++ drop i xs))) =
-    rw (at, number) at (c .insert .ensures) in
-    rw number (put-done (c .pre .held) (c .count-cells-count .ensures) (c .args .author) (c .args .place) (c .args .style) (c .args .letters .now) (c .pre .good) (c .in-Some .ensures tt .1) (c .in-Some-room .ensures tt .1) wrote (c .add-change .ensures))
+    put-done (c .pre .held) (c .count-cells-count .ensures) (c .args .author) (c .args .place) (c .args .style) (c .args .letters .now) (c .pre .good) (c .in-Some .ensures tt .0)
+    (c .in-Some-room .ensures tt .0) (c .in-Some .ensures tt .1) (c .in-Some-room .ensures tt .1) (c .insert .ensures) (c .add-change .ensures)
