@@ -58,3 +58,8 @@ in-range-is (Save i n) ls = refl
 -- what the code tests is what refusal 2 is about
 pub good-is : (ps : List ℕ) (c : Call) (ls : List ℕ) → (can c && in-range c ls) ≡ good-call (limits-of ps) (meaning c ls)
 good-is ps c ls = ap₂ _&&_ (can-is c ls) (in-range-is c ls)
+
+-- a call that the code found in range
+pub tested-good : (c : Call) (ls : List ℕ) (a b : Bool) → b ≡ in-range c ls → (a && b) ≡ true → good-fields (meaning c ls) ≡ true
+tested-good c ls true b e h = sym (in-range-is c ls) ∙ (sym e ∙ h)
+tested-good c ls false b e h = let z : _≡_ {A = Bool} false true = h in cc

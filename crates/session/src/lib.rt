@@ -7,7 +7,7 @@ ghost use Rattle.session.specs.Acts.{Acted, Noted, Said, Wrote, allows, with-c
 ghost use Rattle.model.specs.Calls.{count as counts, good-fields, put as puts, show as shows};
 ghost use Rattle.codec.specs.Values.{meaning, told};
 ghost use Rattle.session.specs.Contract.{Called, Opening};
-ghost use Rattle.session.specs.Keeping.{Any-chain, Main-promise};
+ghost use Rattle.session.specs.Keeping.{Any-chain, From-opening, Main-promise};
 ghost use Rattle.session.specs.Memory.{Held, Sound, cells-words, paper-of, pieces-words, slots-of, tables, undo-words};
 ghost use Rattle.std.specs.declared.option.Option.the-variants.{None, Some};
 ghost use lib.Dec.{leb};
@@ -322,9 +322,10 @@ fn add_change(pieces: &mut [u32], author: u32)
     pieces[3] = number + 1;
 }
 
-// In any chain of calls, with any bytes, the answers are those of the desk that memory stood for.
+// In any chain of calls, with any bytes, the answers are those of the desk that memory stood for; after opening, of the empty desk.
 pub fn any_chain() -> u8
-    ensures { λ _. ⌜ Any-chain ⌝ }
+    ensures stands { λ _. ⌜ Any-chain ⌝ }
+    ensures opened { λ _. ⌜ From-opening ⌝ }
 {
     0
 }

@@ -1,12 +1,11 @@
-use mathlib.Core.Path.{_≡_, ap₂, sym, subst, _∙_}
-use mathlib.Core.Bool.{true, false, _&&_}
-use Rattle.model.specs.Calls.{Call, count, good-call, good-fields, put, refused, show}
+use mathlib.Core.Path.{_≡_, ap₂, sym, _∙_}
+use mathlib.Core.Bool.{false, _&&_}
+use Rattle.model.specs.Calls.{Call, count, good-call, put, refused, show}
 use Rattle.codec.specs.Values.{meaning, told}
 use Rattle.session.specs.Acts.{Acted, Said}
 use Rattle.session.specs.Memory.{limits-of}
 use Rattle.session.specs.Range.{can, in-range}
-use Rattle.session.proofs.Putting.{both-true}
-use Rattle.session.proofs.Ranges.{good-is, in-range-is}
+use Rattle.session.proofs.Ranges.{good-is, tested-good}
 use Rattle.session.proofs.Saying.{out-of-range, said}
 use Rattle.session.proofs.serve.Needs as need
 
@@ -22,23 +21,17 @@ returns-then-not-can-within c =
 
 pub put-number-requires : need.put-number-requires
 put-number-requires c κs =
-    let ls = c .args .letters .now in
-    let tested : in-range (c .args .call) ls ≡ true = sym (c .within .ensures) ∙ both-true (c .can .result) (c .within .result) (c .if-not-can-within .left) .1 in
-    let good : good-fields (meaning (c .args .call) ls) ≡ true = sym (in-range-is (c .args .call) ls) ∙ tested in
+    let good = tested-good (c .args .call) (c .args .letters .now) (c .can .result) (c .within .result) (c .within .ensures) (c .if-not-can-within .left) in
     record { held = c .pre .held; good = rw (c .in-Put .is) at good }
 
 pub show-requires : need.show-requires
 show-requires c κs =
-    let ls = c .args .letters .now in
-    let tested : in-range (c .args .call) ls ≡ true = sym (c .within .ensures) ∙ both-true (c .can .result) (c .within .result) (c .if-not-can-within .left) .1 in
-    let good : good-fields (meaning (c .args .call) ls) ≡ true = sym (in-range-is (c .args .call) ls) ∙ tested in
+    let good = tested-good (c .args .call) (c .args .letters .now) (c .can .result) (c .within .result) (c .within .ensures) (c .if-not-can-within .left) in
     record { held = c .pre .held; good = rw (c .in-Show .is) at good; room = c .pre .room }
 
 pub count-requires : need.count-requires
 count-requires c κs =
-    let ls = c .args .letters .now in
-    let tested : in-range (c .args .call) ls ≡ true = sym (c .within .ensures) ∙ both-true (c .can .result) (c .within .result) (c .if-not-can-within .left) .1 in
-    let good : good-fields (meaning (c .args .call) ls) ≡ true = sym (in-range-is (c .args .call) ls) ∙ tested in
+    let good = tested-good (c .args .call) (c .args .letters .now) (c .can .result) (c .within .result) (c .within .ensures) (c .if-not-can-within .left) in
     record { held = c .pre .held; good = rw (c .in-Count .is) at good }
 
 pub returns-in-Put : need.returns-in-Put
