@@ -156,10 +156,10 @@ fn fields(bytes: &[u8]) -> Call
     }
 }
 
-// The call that these bytes are and its letters, or the place where they cease to be a call.
+// The call that these bytes are and its letters, which are all after its fields, or the place where they cease to be a call.
 pub fn read(bytes: &[u8]) -> Result<(Call, &[u8]), usize>
     ensures { λ r. ⌜ elim r [
-      | Ok p ↦ reading (now (bytes .entry)) ≡ call-is (meaning (p .0) (now (p .1)))
+      | Ok p ↦ (reading (now (bytes .entry)) ≡ call-is (meaning (p .0) (now (p .1)))) × (now (p .1) ≡ drop (head-length (getD (now (bytes .entry)) 0 0)) (now (bytes .entry)))
       | Err i ↦ (reading (now (bytes .entry)) ≡ ceases i) × (i ≤ length (now (bytes .entry)))
     ] ⌝ }
 {

@@ -16,7 +16,7 @@ use Rattle.codec.specs.Reading.{Reading, reading, call-is, ceases}
 use Rattle.codec.specs.Laws.{Reads-back, One-answer}
 use Rattle.session.specs.Memory.{stage, cells-words, pieces-words, undo-words, limits-of, paper-of, Sound, Stands, opened-pieces}
 use Rattle.session.specs.Contract.{Does, Done, Called, Fit, Opened}
-use Rattle.session.specs.Keeping.{Holds, Opens, Calls, Meets, Main-promise, byte-answer, byte-after, bytes-answers, Chain, ends, goes, Any-chain}
+use Rattle.session.specs.Keeping.{Holds, Opens, Calls, Meets, Main-promise, byte-answer, byte-after, bytes-answers, Chain, ends, goes, Any-chain, From-opening}
 
 -- one link of a chain
 link : (r : Reading) (cs ps us cs′ ps′ us′ rs : List ℕ) (d : Desk) → Does r cs ps us cs′ ps′ us′ rs → Stands cs ps us d →
@@ -83,14 +83,34 @@ record At (l : Limits) (m : Memory) (d : Desk) : Type 0 where
   limits : limits-of pieces ≡ staged l
   fit : Fit cells pieces undo
 
+-- memory that was opened has the limits that it was opened with
+opened-limits : (l : Limits) (cs ps us cs′ ps′ us′ : List ℕ) → Opened (l .cells) (l .changes) (l .undos) cs ps us cs′ ps′ us′ → limits-of ps′ ≡ staged l
+opened-limits l cs ps us cs′ ps′ us′ o =
+    let is : ps′ ≡ opened-pieces (l .cells) (l .changes) (l .undos) ++ drop (pieces-words (l .changes)) ps = o .pieces in
+    let a : getD ps′ 0 0 ≡ l .cells = ap (λ (ws : List ℕ). getD ws 0 0) is in
+    let b : getD ps′ 1 0 ≡ l .changes = ap (λ (ws : List ℕ). getD ws 1 0) is in
+    let c : getD ps′ 2 0 ≡ l .undos = ap (λ (ws : List ℕ). getD ws 2 0) is in
+    cc
+
+staged-is : (l : Limits) → l .calls-can ≡ stage → staged l ≡ l
+staged-is l can = ap (λ (f : ℕ → Bool). record { calls-can = f; cells = l .cells; changes = l .changes; undos = l .undos }) (sym can)
+
+pub from-opening : From-opening
+from-opening l cs ps us cs′ ps′ us′ bss rss can o chain =
+    chained new-desk (o .stands) chain ∙ ap (λ (n : Limits). bytes-answers n new-desk bss) (opened-limits l cs ps us cs′ ps′ us′ o ∙ staged-is l can)
+
 opened-at : (e : Keeper) → Meets e → (l : Limits) → Good-limits l → At l (e .opens l) new-desk
 opened-at e meets l good =
     let o : Opens l (e .opens l) = meets .opens l good in
-    let is : o .pieces ≡ opened-pieces (l .cells) (l .changes) (l .undos) ++ drop (pieces-words (l .changes)) (o .pieces-before) = o .opened .pieces in
-    let a : getD (o .pieces) 0 0 ≡ l .cells = ap (λ (ps : List ℕ). getD ps 0 0) is in
-    let b : getD (o .pieces) 1 0 ≡ l .changes = ap (λ (ps : List ℕ). getD ps 1 0) is in
-    let c : getD (o .pieces) 2 0 ≡ l .undos = ap (λ (ps : List ℕ). getD ps 2 0) is in
-    record { cells = o .cells; pieces = o .pieces; undo = o .undo; holds = o .holds; stands = o .opened .stands; limits = cc; fit = o .opened .fit }
+    record {
+      cells = o .cells;
+      pieces = o .pieces;
+      undo = o .undo;
+      holds = o .holds;
+      stands = o .opened .stands;
+      limits = opened-limits l (o .cells-before) (o .pieces-before) (o .undo-before) (o .cells) (o .pieces) (o .undo) (o .opened);
+      fit = o .opened .fit;
+    }
 
 -- what one call of a keeper does
 record Next (e : Keeper) (l : Limits) (m : Memory) (d : Desk) (c : Call) : Type 0 where
@@ -168,11 +188,11 @@ pub main-promise : Reads-back → One-answer → Main-promise
 unfolding Right Enough-memory Refusal-keeps
 main-promise back one e meets = (
   λ l cs can good h.
-      let same : staged l ≡ l = ap (λ (f : ℕ → Bool). record { calls-can = f; cells = l .cells; changes = l .changes; undos = l .undos }) (sym can) in
+      let same : staged l ≡ l = staged-is l can in
       told back one e meets l (e .opens l) new-desk cs h (opened-at e meets l good) ∙ ap (λ (n : Limits). answers n new-desk cs) same,
   λ l cs good h. enough l (left-by e (e .opens l) cs) (ran (staged l) new-desk cs) (left-at back one e meets l (e .opens l) new-desk cs h (opened-at e meets l good)),
   λ l cs c can good h t.
-      let same : staged l ≡ l = ap (λ (f : ℕ → Bool). record { calls-can = f; cells = l .cells; changes = l .changes; undos = l .undos }) (sym can) in
+      let same : staged l ≡ l = staged-is l can in
       let parts : (all-readable cs ≡ true) × (readable c ≡ true) = readable-last cs c h in
       let x : At l (left-by e (e .opens l) cs) (ran (staged l) new-desk cs) = left-at back one e meets l (e .opens l) new-desk cs (parts .0) (opened-at e meets l good) in
       let t′ : 0 < turned (staged l) (ran (staged l) new-desk cs) c = subst (λ (n : Limits). 0 < turned n (ran n new-desk cs) c) (sym same) t in

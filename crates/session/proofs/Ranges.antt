@@ -11,7 +11,7 @@ use Rattle.codec.specs.Values.{meaning}
 use Rattle.codec.specs.declared.Call.{Call}
 use Rattle.codec.specs.declared.Call.the-variants.{Put, Strike, Accept, Reject, Style, Undo, Redo, Show, Find, Count, Change, Save}
 use Rattle.session.specs.Memory.{stage, limits-of}
-use Rattle.session.specs.Range.{can, in-range}
+use Rattle.session.specs.Range.{in-range, is-show}
 
 abbrev pub good : ℕ → Bool
 good l = eqb l 10 || (leb 32 l && leb l 126)
@@ -25,21 +25,6 @@ unfolding good-letters
 letters-all xs i h = at-drop-all good-letters xs i h
 
 -- the code's cases and the model's agree
-pub can-is : (c : Call) (ls : List ℕ) → can c ≡ stage (call-number (meaning c ls))
-unfolding call-number
-can-is (Put a i s) ls = refl
-can-is (Strike a i n) ls = refl
-can-is (Accept c) ls = refl
-can-is (Reject c) ls = refl
-can-is (Style i n s) ls = refl
-can-is Undo ls = refl
-can-is Redo ls = refl
-can-is (Show k w r n) ls = refl
-can-is (Find k i) ls = refl
-can-is (Count k) ls = refl
-can-is (Change c) ls = refl
-can-is (Save i n) ls = refl
-
 pub in-range-is : (c : Call) (ls : List ℕ) → in-range c ls ≡ good-fields (meaning c ls)
 unfolding good-fields
 in-range-is (Put a i s) ls = refl
@@ -55,6 +40,24 @@ in-range-is (Count k) ls = refl
 in-range-is (Change c) ls = refl
 in-range-is (Save i n) ls = refl
 
+and-false : (b : Bool) → (b && false) ≡ false
+and-false true = refl
+and-false false = refl
+
 -- what the code tests is what refusal 2 is about
-pub good-is : (ps : List ℕ) (c : Call) (ls : List ℕ) → (can c && in-range c ls) ≡ good-call (limits-of ps) (meaning c ls)
-good-is ps c ls = ap₂ _&&_ (can-is c ls) (in-range-is c ls)
+pub out-is-bad : (ps : List ℕ) (c : Call) (ls : List ℕ) → in-range c ls ≡ false → good-call (limits-of ps) (meaning c ls) ≡ false
+out-is-bad ps c ls h = ap (λ (b : Bool). stage (call-number (meaning c ls)) && b) (sym (in-range-is c ls) ∙ h) ∙ and-false (stage (call-number (meaning c ls)))
+
+pub not-shown : (c : Call) → ((k w r n : ℕ) → c ≡ Show k w r n → ⊥) → is-show c ≡ false
+not-shown (Put a i s) h = refl
+not-shown (Strike a i n) h = refl
+not-shown (Accept c) h = refl
+not-shown (Reject c) h = refl
+not-shown (Style i n s) h = refl
+not-shown Undo h = refl
+not-shown Redo h = refl
+not-shown (Show k w r n) h = absurd (h k w r n refl)
+not-shown (Find k i) h = refl
+not-shown (Count k) h = refl
+not-shown (Change c) h = refl
+not-shown (Save i n) h = refl

@@ -68,6 +68,12 @@ pub data Chain : List ℕ → List ℕ → List ℕ → List (List ℕ) → List
 abbrev pub Any-chain : Type 0
 Any-chain = (cs ps us : List ℕ) (d : Desk) (bss rss : List (List ℕ)) → Stands cs ps us d → Chain cs ps us bss rss → rss ≡ bytes-answers (limits-of ps) d bss
 
+-- and from memory that was just opened they are the empty desk's, whatever stood there before
+abbrev pub From-opening : Type 0
+From-opening =
+    (l : Limits) (cs ps us cs′ ps′ us′ : List ℕ) (bss rss : List (List ℕ)) → l .calls-can ≡ stage → Opened (l .cells) (l .changes) (l .undos) cs ps us cs′ ps′ us′ →
+    Chain cs′ ps′ us′ bss rss → rss ≡ bytes-answers l new-desk bss
+
 -- there is a keeper that does what the contracts say
 abbrev pub Some-keeper : Type 0
 Some-keeper = (e : Keeper) × Meets e

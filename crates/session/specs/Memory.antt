@@ -1,6 +1,6 @@
 -- What lent memory is: three slices of words, of which each is at least as long as the limits ask for.
--- cells: the slots of the store. pieces: 0 to 2 the limits, 3 how many changes there are, 4 to 15 nothing (0); from 16 on the changes, two words
--- each, for as many as the limit allows; after them the tables of the store. undo: nothing in this stage.
+-- cells: the slots of the store. pieces: 0 to 2 the limits, 3 how many changes there are, 4 to 15 not used (opening makes them 0, and no call tells of
+-- them); from 16 on the changes, two words each, for as many as the limit allows; after them the tables of the store. undo: nothing in this stage.
 -- Definitions only: nothing is assumed.
 use mathlib.Core.Path.{_≡_}
 use mathlib.Core.Bool.{Bool, _||_}

@@ -8,20 +8,20 @@ use Rattle.model.specs.Calls.{good-letters}
 use Rattle.codec.specs.declared.Call.{Call}
 use Rattle.codec.specs.declared.Call.the-variants.{Put, Strike, Accept, Reject, Style, Undo, Redo, Show, Find, Count, Change, Save}
 
--- the calls that this stage can do
-abbrev pub can : Call → Bool
-can (Put author place style) = true
-can (Strike author place count) = true
-can (Accept change) = true
-can (Reject change) = true
-can (Style place count style) = true
-can Undo = false
-can Redo = false
-can (Show way width row count) = true
-can (Find way from) = false
-can (Count way) = true
-can (Change change) = true
-can (Save from count) = false
+-- the call whose answer is rows
+abbrev pub is-show : Call → Bool
+is-show (Put author place style) = false
+is-show (Strike author place count) = false
+is-show (Accept change) = false
+is-show (Reject change) = false
+is-show (Style place count style) = false
+is-show Undo = false
+is-show Redo = false
+is-show (Show way width row count) = true
+is-show (Find way from) = false
+is-show (Count way) = false
+is-show (Change change) = false
+is-show (Save from count) = false
 
 -- at least one, and at most so many
 abbrev pub counted : ℕ → ℕ → Bool

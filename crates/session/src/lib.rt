@@ -7,7 +7,8 @@ ghost use Rattle.session.specs.Acts.{Acted, Rowed, Said, Wrote, allows, row-of
 ghost use Rattle.model.specs.Calls.{count as counts, good-fields, put as puts, show as shows};
 ghost use Rattle.codec.specs.Values.{meaning, told};
 ghost use Rattle.session.specs.Contract.{Called, Opening};
-ghost use Rattle.session.specs.Keeping.{Any-chain, Main-promise};
+ghost use Rattle.session.specs.Keeping.{Any-chain, From-opening, Main-promise};
+ghost use Rattle.session.specs.Range.{is-show};
 ghost use Rattle.session.specs.Memory.{Held, Sound, cells-words, paper-of, pieces-words, slots-of, tables, undo-words};
 ghost use Rattle.std.specs.declared.option.Option.the-variants.{None, Some};
 ghost use lib.Dec.{leb};
@@ -21,6 +22,7 @@ mod range;
 
 use codec::Answer;
 use codec::Call;
+use deciding::Verdict;
 
 const HEAD: usize = 16;
 
@@ -156,24 +158,11 @@ fn serve(
     requires room { ⌜ 262405 ≤ length (now answer) ⌝ }
     ensures { λ r. ⌜ Said (now (cells .entry)) (now (pieces .entry)) (meaning call (now (letters .entry))) (now (cells .exit)) (now (pieces .exit)) (now (answer .entry)) (now (answer .exit)) r ⌝ }
 {
-    if !(range::can(call) & range::within(call, letters)) {
+    if !range::within(call, letters) {
         return codec::write(Answer::Refused(2, 0), answer);
     }
     match call {
-        Call::Put {
-            author,
-            place,
-            style,
-        } => {
-            let number = put(cells, pieces, author, place, style, letters);
-            codec::write(number, answer)
-        }
-        Call::Show {
-            way,
-            width,
-            row,
-            count,
-        } => {
+        Call::Show { way, width, row, count } => {
             let rows = Rows {
                 way,
                 width,
@@ -182,8 +171,33 @@ fn serve(
             };
             show(cells, pieces, rows, answer)
         }
-        Call::Count { way } => codec::write(count(cells, pieces, way), answer),
-        _ => unreachable(),
+        _ => {
+            let short = act(cells, pieces, call, letters);
+            codec::write(short, answer)
+        }
+    }
+}
+
+// Does a call in range whose answer is short, or refuses it. A call that this stage cannot do is refused by 2.
+fn act(cells: &mut [u32], pieces: &mut [u32], call: Call, letters: &[u8]) -> Answer
+    requires held { ⌜ Held (now cells) (now pieces) ⌝ }
+    requires good { ⌜ good-fields (meaning call (now letters)) ≡ true ⌝ }
+    requires short { ⌜ is-show call ≡ false ⌝ }
+    ensures { λ r. ⌜ Acted (now (cells .entry)) (now (pieces .entry)) (meaning call (now (letters .entry))) (now (cells .exit)) (now (pieces .exit)) (told r) ⌝ }
+{
+    match call {
+        Call::Put { author, place, style } => put(cells, pieces, author, place, style, letters),
+        Call::Strike { author, place, count } => deciding::strike(cells, pieces, author, place, count),
+        Call::Accept { change } => deciding::decide(cells, pieces, change, Verdict::Accepted),
+        Call::Reject { change } => deciding::decide(cells, pieces, change, Verdict::Rejected),
+        Call::Style { place, count, style } => deciding::style(cells, pieces, place, count, style),
+        Call::Count { way } => count(cells, pieces, way),
+        Call::Change { change } => deciding::ask(cells, pieces, change),
+        Call::Show { .. } => unreachable(),
+        Call::Undo => Answer::Refused(2, 0),
+        Call::Redo => Answer::Refused(2, 0),
+        Call::Find { .. } => Answer::Refused(2, 0),
+        Call::Save { .. } => Answer::Refused(2, 0),
     }
 }
 
@@ -323,9 +337,10 @@ fn add_change(pieces: &mut [u32], author: u32)
     pieces[3] = number + 1;
 }
 
-// In any chain of calls, with any bytes, the answers are those of the desk that memory stood for.
+// In any chain of calls, with any bytes, the answers are those of the desk that memory stood for; after opening, of the empty desk.
 pub fn any_chain() -> u8
-    ensures { λ _. ⌜ Any-chain ⌝ }
+    ensures stands { λ _. ⌜ Any-chain ⌝ }
+    ensures opened { λ _. ⌜ From-opening ⌝ }
 {
     0
 }

@@ -1,23 +1,10 @@
-// What refusal 2 is about: the numbers and letters of a call, and the calls that this stage can do.
+// What refusal 2 is about: the numbers and letters of a call.
 ghost use Rattle.model.specs.Calls.{good-letters};
-ghost use Rattle.session.specs.Range.{can as stage-can, counted as all-counted, in-range};
+ghost use Rattle.session.specs.Range.{counted as all-counted, in-range};
 ghost use lib.Dec.{eqb, leb};
 ghost use mathlib.Core.Bool.{_&&_, _||_};
 ghost use mathlib.Core.Path.{_≡_};
 use codec::Call;
-
-// Whether this stage can do a call.
-pub fn can(call: Call) -> bool
-    ensures { λ r. ⌜ r ≡ stage-can call ⌝ }
-{
-    match call {
-        Call::Undo => false,
-        Call::Redo => false,
-        Call::Find { .. } => false,
-        Call::Save { .. } => false,
-        _ => true,
-    }
-}
 
 // Whether a call's numbers and letters are in range.
 pub fn within(call: Call, letters: &[u8]) -> bool

@@ -47,4 +47,4 @@ returns c =
     let r = whole bs (c .if-len-eq0 .left) (c .if-bytes-ge12 .left) e h in
     let m = c .fields .ensures (drop (head-length (getD bs 0 0)) bs) in
     let t = take-rest bs (head-length (getD bs 0 0)) in
-    cc
+    (cc, cc)

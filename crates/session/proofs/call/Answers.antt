@@ -24,7 +24,7 @@ returns-in-Ok c =
     first-bytes bs (c .args .answer .now) (c .serve .last .answer) r (c .serve .ensures .bytes) (c .serve .ensures .long) in
     record {
       called =
-          called cs ps us (c .args .bytes .now) (c .serve .last .cells) (c .serve .last .pieces) (take r (c .serve .last .answer)) m (c .in-Ok .ensures tt) (c .pre .sound .undo-long)
+          called cs ps us (c .args .bytes .now) (c .serve .last .cells) (c .serve .last .pieces) (take r (c .serve .last .answer)) m (c .in-Ok .ensures tt .0) (c .pre .sound .undo-long)
           (c .serve .ensures .acted) (parts .0) (λ i. c .typed .cells i .fits, λ i. c .typed .pieces i .fits, λ i. c .typed .undo i .fits);
       within = first-within bs (c .args .answer .now) (c .serve .last .answer) r (c .serve .ensures .bytes) (c .serve .ensures .long) (c .serve .kept .answer);
       rest = parts .1;

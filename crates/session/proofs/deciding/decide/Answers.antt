@@ -20,11 +20,7 @@ returns-then-found-ne0 c =
 
 pub judge-requires : need.judge-requires
 judge-requires c κs =
-    let cs = c .args .cells .now in
-    let ps = c .args .pieces .now in
-    let act : c .action-of .result ≡ verdict-action (c .args .verdict) (c .args .change) = c .action-of .ensures in
-    let same : (getD (c .sweep-all .last .pieces) 3 0 ≡ getD ps 3 0) × (getD (c .sweep-all .last .pieces) 1 0 ≡ getD ps 1 0) =
-        still cs ps (c .sweep-all .last .cells) (c .sweep-all .last .pieces) (swept (c .action-of .result) (row-of ps) (paper-of cs ps .cells)) (c .sweep-all .ensures) in
+    let same = still (c .sweep-all .ensures) in
     record {
       there = omega (arith, same .0, c .in-Some .ensures tt .0);
       few = c .sweep-all .ensures .held .changes-fit;

@@ -45,9 +45,7 @@ add-change-requires c κs =
     let cs = c .args .cells .now in
     let ps = c .args .pieces .now in
     let less : getD ps 3 0 < getD ps 1 0 = allowed-more ps (c .count-cells-total .result) (c .in-Some-room .ensures tt .1) in
-    let xs = swept-run (Strike (c .args .author) (c .in-Some-room .number)) (row-of ps) (paper-of cs ps .cells) (c .in-Some .at) (c .args .count) in
-    let same : (getD (c .sweep-run .last .pieces) 3 0 ≡ getD ps 3 0) × (getD (c .sweep-run .last .pieces) 1 0 ≡ getD ps 1 0) =
-        still cs ps (c .sweep-run .last .cells) (c .sweep-run .last .pieces) xs (c .sweep-run .ensures) in
+    let same = still (c .sweep-run .ensures) in
     record { room = omega (arith, same .0, same .1); few = c .sweep-run .ensures .held .few-changes; long = omega (arith, c .sweep-run .ensures .held .pieces-long) }
 
 pub returns : need.returns
