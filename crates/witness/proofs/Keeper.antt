@@ -1,25 +1,25 @@
--- A keeper that does what the contracts of open and call say: after a put that is done it has the canonical memory of the new paper, and else the
--- memory that it had. It meets the contracts from any sound memory, also from one that is not canonical. Assumes nothing.
+-- A keeper that does what the contracts of open and call say: after a call that writes and is done it has the canonical memory of the new paper,
+-- and else the memory that it had. It meets the contracts from any sound memory, also from one that is not canonical. Assumes nothing.
 use mathlib.Core.Path.{_≡_, refl, sym, ap, subst, _∙_}
 use mathlib.Core.Bool.{Bool, true, false, _&&_}
 use mathlib.Core.List.{List, [], _++_}
-use Prim.Native.Nat.{ℕ, zero, suc, _+_, _<_}
+use Prim.Native.Nat.{ℕ, zero, suc, _+_}
 use native.Mathlib.Omega.{arith}
 use lib.Dec.{leb, eqb}
 use lib.ListN.{length, getD, take, drop}
 use Rattle.std.proofs.shelf.Lists.{append-nil, drop-all, drop-at, take-at, getD-drop, getD-append-left}
-use Rattle.std.proofs.shelf.Tests.{and-parts, ltb-true, leb-true, eqb-true, ne-eqb}
+use Rattle.std.proofs.shelf.Tests.{and-parts, leb-true, eqb-true, ne-eqb}
 use Rattle.changes.proofs.Row.{length-changes}
 use Rattle.model.specs.Paper.{pick, Paper}
 use Rattle.model.specs.Calls.{Call, put, strikes, accepts, rejects, styles, undo, redo, show, find, count, change, save, Answer, Desk, Limits, call-number, good-call, turned-by, rewritten, writes, moved, fits, turned, after, told, answer}
-use Rattle.model.specs.Promise.{Good-limits, readable, all-below, field, Memory, Keeper}
+use Rattle.model.specs.Promise.{Good-limits, readable, Memory, Keeper}
 use Rattle.codec.specs.Bytes.{answer-bytes}
 use Rattle.codec.specs.Reading.{Reading, call-is}
 use Rattle.codec.proofs.ReadsBack.{reads-back}
 use Rattle.session.specs.Memory.{cells-words, pieces-words, undo-words, limits-of, paper-of, tables, Sound, Stands, opened-undo}
 use Rattle.session.specs.Contract.{Does, Fit}
 use Rattle.session.specs.Keeping.{Holds, Opens, Calls, Some-keeper}
-use Rattle.witness.proofs.Small.{Of-paper, put-small, row-small, text-small}
+use Rattle.witness.proofs.Small.{Of-paper, rewritten-small, row-small, text-small}
 use Rattle.witness.proofs.Canonical.{Within, cells-for, pieces-for, undo-for, memory-for, holds-for, paper-is, sound-for, fit-for, empty, opened-cells-are, opened-pieces-are}
 
 -- the slices in one list of words
@@ -75,21 +75,12 @@ pick-same : {A : Type 0} (b : Bool) (x : A) → pick b x x ≡ x
 pick-same true x = refl
 pick-same false x = refl
 
--- what a call that is not turned away has shown
-not-turned : (good : Bool) (why : ℕ) (room : Bool) → pick good (pick (eqb why 0) (pick room 0 9) why) 2 ≡ 0 → (good ≡ true) × (room ≡ true)
+-- a call that is not turned away leaves a paper within the limits
+not-turned : (good : Bool) (why : ℕ) (room : Bool) → pick good (pick (eqb why 0) (pick room 0 9) why) 2 ≡ 0 → room ≡ true
 not-turned false why room e = absurd (omega arith)
-not-turned true zero true e = (refl, refl)
+not-turned true zero true e = refl
 not-turned true zero false e = absurd (omega arith)
 not-turned true (suc why) room e = let f = ne-eqb (suc why) 0 (λ z. omega arith) in let z : suc why ≡ 0 = rw f at e in absurd (omega arith)
-
-put-fields : (a i s : ℕ) (ls : List ℕ) → readable (put a i s ls) ≡ true → (a < 4294967296) × (s < 4294967296) × (all-below 256 ls ≡ true)
-unfolding readable
-put-fields a i s ls h =
-    let both = and-parts (field a && field i) (field s && (field (length ls) && all-below 256 ls)) h in
-    let author = and-parts (field a) (field i) (both .0) in
-    let style = and-parts (field s) (field (length ls) && all-below 256 ls) (both .1) in
-    let letters = and-parts (field (length ls)) (all-below 256 ls) (style .1) in
-    (ltb-true a 4294967296 (author .0), ltb-true s 4294967296 (style .0), letters .1)
 
 -- nothing is left past the end
 past-end : (k : ℕ) (xs ys : List ℕ) → length xs ≡ k → length ys ≡ k → drop k xs ≡ drop k ys
@@ -128,11 +119,8 @@ module _ (m : Memory) (cs ps us : List ℕ) (holds : Holds m cs ps us) (sound : 
   small : Of-paper paper
   small = record { cells = text-small cs (tables ps) (fit .0) 0 _; changes = row-small (drop 16 ps) (λ i. rw getD-drop (fit .1 (16 + i))) 0 _ }
 
-  -- a put that is done
-  module _ (a i s : ℕ) (ls : List ℕ) (readable-put : readable (put a i s ls) ≡ true) (done : turned (limits-of ps) (bare paper) (put a i s ls) ≡ 0) where
-    abbrev c : Call
-    c = put a i s ls
-
+  -- a call that writes and is done
+  module _ (c : Call) (carried : readable c ≡ true) (written : writes c ≡ true) (done : turned (limits-of ps) (bare paper) c ≡ 0) where
     abbrev new : Paper
     new = rewritten paper c
 
@@ -145,12 +133,10 @@ module _ (m : Memory) (cs ps us : List ℕ) (holds : Holds m cs ps us) (sound : 
     abbrev us′ : List ℕ
     us′ = undo-for (limits-of ps)
 
-    shown : (good-call (limits-of ps) c ≡ true) × (fits (limits-of ps) new ≡ true)
-    shown = not-turned (good-call (limits-of ps) c) (turned-by (bare paper) c) (fits (limits-of ps) new) done
-
     within : Within (limits-of ps) new
     within =
-        let room = and-parts (leb (length (new .cells)) (getD ps 0 0)) (leb (length (new .changes)) (getD ps 1 0)) (shown .1) in
+        let shown : fits (limits-of ps) new ≡ true = not-turned (good-call (limits-of ps) c) (turned-by (bare paper) c) (fits (limits-of ps) new) done in
+        let room = and-parts (leb (length (new .cells)) (getD ps 0 0)) (leb (length (new .changes)) (getD ps 1 0)) shown in
         record {
           good = (omega arith, omega arith, omega arith);
           cells = leb-true (length (new .cells)) (getD ps 0 0) (room .0);
@@ -158,14 +144,10 @@ module _ (m : Memory) (cs ps us : List ℕ) (holds : Holds m cs ps us) (sound : 
         }
 
     new-small : Of-paper new
-    new-small =
-        let fields = put-fields a i s ls readable-put in
-        let long = length-changes (drop 16 ps) 0 (getD ps 3 0) in
-        put-small paper a i s ls (fields .2) (fields .0) (fields .1) (omega arith) small
+    new-small = let long = length-changes (drop 16 ps) 0 (getD ps 3 0) in rewritten-small paper c carried (omega arith) small
 
-    put-done : Calls cs ps us c (memory-for (limits-of ps) new) (says-in cs ps c)
-    unfolding writes
-    put-done =
+    write-done : Calls cs ps us c (memory-for (limits-of ps) new) (says-in cs ps c)
+    write-done =
         let rs : List ℕ = answer-bytes (says-in cs ps c) in
         let right : Sound cs′ ps′ us′ = sound-for (limits-of ps) new within in
         let is : paper-of cs′ ps′ ≡ new = paper-is (limits-of ps) new within in
@@ -173,7 +155,7 @@ module _ (m : Memory) (cs ps us : List ℕ) (holds : Holds m cs ps us) (sound : 
         let does : Does (call-is c) cs ps us cs′ ps′ us′ rs =
         λ d st.
         let same : turned (limits-of ps) d c ≡ 0 = turned-same d c (st .paper) ∙ done in
-        let now : after (limits-of ps) d c .now ≡ rewritten (d .now) c = rw same refl in
+        let now : after (limits-of ps) d c .now ≡ rewritten (d .now) c = rw (same, written) refl in
         record {
           stands = record { sound = right; paper = now ∙ ap (λ (p : Paper). rewritten p c) (st .paper) ∙ sym is };
           limits = refl;
@@ -186,7 +168,7 @@ module _ (m : Memory) (cs ps us : List ℕ) (holds : Holds m cs ps us) (sound : 
           undo = us′;
           holds = long;
           called = record {
-            does = subst (λ (r : Reading). Does r cs ps us cs′ ps′ us′ rs) (sym (reads-back c readable-put)) does;
+            does = subst (λ (r : Reading). Does r cs ps us cs′ ps′ us′ rs) (sym (reads-back c carried)) does;
             sound = right;
             limits = refl;
             beyond = record {
@@ -201,25 +183,25 @@ module _ (m : Memory) (cs ps us : List ℕ) (holds : Holds m cs ps us) (sound : 
           };
         }
 
-  put-calls : (a i s : ℕ) (ls : List ℕ) → readable (put a i s ls) ≡ true → (t : Bool) → eqb (turned (limits-of ps) (bare paper) (put a i s ls)) 0 ≡ t →
-      Calls cs ps us (put a i s ls) (pick t (memory-for (limits-of ps) (rewritten paper (put a i s ls))) m) (says-in cs ps (put a i s ls))
-  put-calls a i s ls h true e = put-done a i s ls h (eqb-true _ _ e)
-  put-calls a i s ls h false e =
-      still (put a i s ls) h λ d k. let f : eqb (turned (limits-of ps) d (put a i s ls)) 0 ≡ false = ap (λ (n : ℕ). eqb n 0) (turned-same d (put a i s ls) k) ∙ e in rw f refl
+  write-calls : (c : Call) → readable c ≡ true → writes c ≡ true → (t : Bool) → eqb (turned (limits-of ps) (bare paper) c) 0 ≡ t →
+      Calls cs ps us c (pick t (memory-for (limits-of ps) (rewritten paper c)) m) (says-in cs ps c)
+  write-calls c h w true e = write-done c h w (eqb-true _ _ e)
+  write-calls c h w false e =
+      still c h λ d k. let f : eqb (turned (limits-of ps) d c) 0 ≡ false = ap (λ (n : ℕ). eqb n 0) (turned-same d c k) ∙ e in rw f refl
 
   calls-in : (c : Call) → readable c ≡ true → Calls cs ps us c (next-in cs ps m c) (says-in cs ps c)
   unfolding call-number writes moved
-  calls-in (put a i s ls) h = put-calls a i s ls h (eqb (turned (limits-of ps) (bare paper) (put a i s ls)) 0) refl
-  calls-in (strikes a i n) h = still (strikes a i n) h (λ d k. refl)
-  calls-in (accepts c) h = still (accepts c) h (λ d k. refl)
-  calls-in (rejects c) h = still (rejects c) h (λ d k. refl)
-  calls-in (styles i n s) h = still (styles i n s) h (λ d k. refl)
+  calls-in (put a i s ls) h = write-calls (put a i s ls) h refl _ refl
+  calls-in (strikes a i n) h = write-calls (strikes a i n) h refl _ refl
+  calls-in (accepts c) h = write-calls (accepts c) h refl _ refl
+  calls-in (rejects c) h = write-calls (rejects c) h refl _ refl
+  calls-in (styles i n s) h = write-calls (styles i n s) h refl _ refl
   calls-in undo h = still undo h (λ d k. refl)
   calls-in redo h = still redo h (λ d k. refl)
   calls-in (show k w r n) h = still (show k w r n) h (λ d e. pick-same _ d)
   calls-in (find k i ls) h = still (find k i ls) h (λ d e. refl)
   calls-in (count k) h = still (count k) h (λ d e. pick-same _ d)
-  calls-in (change c) h = still (change c) h (λ d k. refl)
+  calls-in (change c) h = still (change c) h (λ d e. pick-same _ d)
   calls-in (save i n) h = still (save i n) h (λ d k. refl)
 
 -- a list that is just as long as asked for, as opening has it
