@@ -6,6 +6,7 @@ use Prim.Native.Nat.{ℕ, zero, suc, _+_, _<_, _≤_}
 use native.Mathlib.Omega.{arith}
 use lib.Dec.{eqb}
 use lib.ListN.{length, getD, take, drop}
+use Rattle.std.proofs.shelf.Lists.{drop-all}
 use Rattle.std.proofs.shelf.Tests.{ne-eqb}
 use Rattle.transcript.specs.Transcript.{onto, lines-of, passed-over, kept-lines, call-lines}
 
@@ -38,6 +39,10 @@ line-last (x ∷ (y ∷ xs)) h f =
     let l : 0 < length (y ∷ xs) = omega arith in
     let e : lines-of (y ∷ xs) ≡ (y ∷ xs) ∷ [] = line-last (y ∷ xs) l (rest-plain x (y ∷ xs) (length (y ∷ xs)) f) in
     rw no (ap (onto x) e)
+
+pub line-rest : (xs : List ℕ) → 0 < length xs → Plain xs (length xs) → lines-of xs ≡ xs ∷ lines-of (drop (length xs) xs)
+unfolding lines-of
+line-rest xs h f = rw (drop-all (length xs) xs (omega arith)) (line-last xs h f)
 
 -- a line that is passed over, and one that is kept
 pub passes : (file line rest : List ℕ) → lines-of file ≡ line ∷ lines-of rest → passed-over line ≡ true → call-lines file ≡ call-lines rest

@@ -9,25 +9,25 @@ use lib.ListN.{length, getD, drop}
 use Rattle.std.specs.Results.{Cases}
 use Rattle.std.specs.declared.result.Result.{Result}
 use Rattle.std.specs.declared.result.Result.the-variants.{Ok, Err}
-use Rattle.std.proofs.shelf.Lists.{append-assoc, append-nil}
+use Rattle.std.proofs.shelf.Lists.{append-assoc, append-nil, drop-all}
 use Rattle.std.proofs.shelf.Results.{cases-weaker}
 use Rattle.std.proofs.shelf.Tests.{and-parts, leb-true, le-leb, lt-ltb}
 use Rattle.model.specs.Paper.{pick}
 use Rattle.model.specs.Calls.{Call, Answer, refused, Desk, Limits, after, answer, new-desk}
 use Rattle.model.specs.Promise.{readable, all-below}
 use Rattle.model.specs.Origin.{Nothing-from-nowhere}
-use Rattle.codec.specs.Bytes.{call-bytes, answer-bytes}
+use Rattle.codec.specs.Bytes.{word-bytes, words-bytes, call-bytes, answer-bytes}
 use Rattle.codec.specs.Reading as codec
 use Rattle.codec.proofs.ReadableIs.{readable-is}
 use Rattle.codec.proofs.ReadsBack.{reads-back}
 use Rattle.session.specs.Memory.{cells-words, pieces-words, limits-of, Sound, Stands, opened-pieces}
 use Rattle.session.specs.Contract.{Does, Done, Called, Opened, Opening, good-limits, enough}
 use Rattle.session.specs.declared.Refusal.{Refusal}
-use Rattle.text.specs.Lines.{Reading, means, ceases, line-reading, Bytes-of, Lacks}
+use Rattle.text.specs.Lines.{Reading, means, ceases, line-reading, limits-reading, Bytes-of, Lacks}
 use Rattle.text.specs.Shown.{showable, answer-line}
 use Rattle.text.specs.declared.fault.Fault.{Fault}
 use Rattle.text.specs.declared.fault.Fault.the-variants.{Place, Memory}
-use Rattle.transcript.specs.Transcript.{line-answer, line-after, line-answers, call-lines, room-for, limits-for, answers-under, answers-after, told-at, told-line, told-lines}
+use Rattle.transcript.specs.Transcript.{line-answer, line-after, line-answers, call-lines, room-for, limits-for, answers-under, answers-after, file-answers, told-at, told-line, told-lines, transcript}
 use Rattle.transcript.specs.Serving.{Appends, Reached, Call-done, Answered, Going}
 use Rattle.transcript.proofs.Letters.{answer-shows, refusal-shows, reached-after, reached-new}
 
@@ -61,7 +61,7 @@ pub line-done : (cs ps us line bs out cs′ ps′ us′ out′ : List ℕ) (r : 
 line-done cs ps us line bs out cs′ ps′ us′ out′ r is done = record {
   sound = done .sound;
   limits = done .limits;
-  line = λ d reached stands.
+  answers = λ d reached stands.
       subst (λ (x : Reading Call). Cases r (λ _. (out′ ≡ out ++ told-line (line-answer (limits-of ps) d x)) × Stands cs′ ps′ us′ (line-after (limits-of ps) d x)) Lacks)
       (sym (is .1)) (done .call (is .0) (is .2) d reached stands);
 }
@@ -72,7 +72,7 @@ pub line-refused : (cs ps us line out out′ : List ℕ) (i p : ℕ) (r : Result
 line-refused cs ps us line out out′ i p r sound is at appends = record {
   sound = sound;
   limits = refl;
-  line = λ d reached stands.
+  answers = λ d reached stands.
       let told : Appends (told-line (refused 1 (told-at i))) out out′ r = subst (λ (n : ℕ). Appends (told-line (refused 1 n)) out out′ r) at appends in
       subst (λ (x : Reading Call). Cases r (λ _. (out′ ≡ out ++ told-line (line-answer (limits-of ps) d x)) × Stands cs ps us (line-after (limits-of ps) d x)) Lacks)
       (sym is) (cases-weaker r told (λ _ h. (h, stands)) (λ _ h. h));
@@ -80,7 +80,7 @@ line-refused cs ps us line out out′ i p r sound is at appends = record {
 
 -- a line for which there is no memory
 pub line-lacks : (cs ps us line out out′ : List ℕ) → Sound cs ps us → Answered cs ps us line out cs ps us out′ (Err Memory)
-line-lacks cs ps us line out out′ sound = record { sound = sound; limits = refl; line = λ d reached stands. tt }
+line-lacks cs ps us line out out′ sound = record { sound = sound; limits = refl; answers = λ d reached stands. tt }
 
 -- before the first line
 pub going-none : (cs ps us file out : List ℕ) → Sound cs ps us → Going cs ps us file out cs ps us file out
@@ -101,7 +101,7 @@ going-more cs ps us file out cs₁ ps₁ us₁ rest₁ out₁ line cs₂ ps₂ u
       let rd : Reading Call = line-reading line in
       let reached₁ : Reached (limits-of ps₁) e = subst (λ (m : Limits). Reached m e) (sym (g .limits)) (s .1) in
       let step : (out₂ ≡ out₁ ++ told-line (line-answer (limits-of ps₁) e rd)) × Stands cs₂ ps₂ us₂ (line-after (limits-of ps₁) e rd) =
-      subst (λ (x : Result (Unit {0}) Fault). Cases x (λ _. (out₂ ≡ out₁ ++ told-line (line-answer (limits-of ps₁) e rd)) × Stands cs₂ ps₂ us₂ (line-after (limits-of ps₁) e rd)) Lacks) ok (a .line e reached₁ (s .2)) in
+      subst (λ (x : Result (Unit {0}) Fault). Cases x (λ _. (out₂ ≡ out₁ ++ told-line (line-answer (limits-of ps₁) e rd)) × Stands cs₂ ps₂ us₂ (line-after (limits-of ps₁) e rd)) Lacks) ok (a .answers e reached₁ (s .2)) in
       let here : (out₂ ≡ out₁ ++ told-line (line-answer l e rd)) × Stands cs₂ ps₂ us₂ (line-after l e rd) =
       subst (λ (m : Limits). (out₂ ≡ out₁ ++ told-line (line-answer m e rd)) × Stands cs₂ ps₂ us₂ (line-after m e rd)) (g .limits) step in
       let more : List ℕ = told-lines (line-answers l (line-after l e rd) (call-lines rest₂)) in
@@ -128,7 +128,7 @@ going-lacks cs ps us file out cs₁ ps₁ us₁ rest₁ out₁ line cs₂ ps₂ 
     let e : Desk = s .0 in
     let rd : Reading Call = line-reading line in
     let reached₁ : Reached (limits-of ps₁) e = subst (λ (m : Limits). Reached m e) (sym (g .limits)) (s .1) in
-    subst (λ (x : Result (Unit {0}) Fault). Cases x (λ _. (out₂ ≡ out₁ ++ told-line (line-answer (limits-of ps₁) e rd)) × Stands cs₂ ps₂ us₂ (line-after (limits-of ps₁) e rd)) Lacks) err (a .line e reached₁ (s .2))
+    subst (λ (x : Result (Unit {0}) Fault). Cases x (λ _. (out₂ ≡ out₁ ++ told-line (line-answer (limits-of ps₁) e rd)) × Stands cs₂ ps₂ us₂ (line-after (limits-of ps₁) e rd)) Lacks) err (a .answers e reached₁ (s .2))
 
 -- limits that there is room for: a desk can be opened with them, in slices of these lengths
 pub room-parts : (n c u : ℕ) → room-for n c u ≡ true → (n ≤ 2048) × (c ≤ 128) × (u ≤ 2048)
@@ -145,4 +145,79 @@ room-good n c u h =
 pub room-enough : (n c u : ℕ) (cs ps us : List ℕ) → room-for n c u ≡ true → length cs ≡ 28672 → length ps ≡ 6416 → enough n c u cs ps us ≡ true
 room-enough n c u cs ps us h k m =
     let p = room-parts n c u h in
-    rw (le-leb (cells-words n) (length cs) (omega (arith, p .0)), le-leb (pieces-words c) (length ps) (omega (arith, p .1))) refl
+    rw (le-leb (cells-words n) (length cs) (omega (arith, p .0)), le-leb (pieces-words c) (length ps) (omega (arith, p .1)), le-leb 0 (length us) (omega arith)) refl
+
+-- the answers under such limits
+pub room-answers : (n c u : ℕ) (lines : List (List ℕ)) → room-for n c u ≡ true → answers-under n c u lines ≡ line-answers (limits-for n c u) new-desk lines
+room-answers n c u lines h = rw (room-good n c u h, h) refl
+
+-- the line of an answer, and byte 10
+pub told-whole : (a : Answer) (line out out₁ out₂ : List ℕ) (r : Result (Unit {0}) Fault) → line ≡ answer-line a → out₁ ≡ out ++ line → Appends (10 ∷ []) out₁ out₂ r → Appends (told-line a) out out₂ r
+told-whole a line out out₁ out₂ r is first second =
+    cases-weaker r second (λ _ h. h ∙ (ap (λ (xs : List ℕ). xs ++ (10 ∷ [])) (first ∙ ap (λ (xs : List ℕ). out ++ xs) is) ∙ append-assoc out (answer-line a) (10 ∷ []))) (λ _ h. h)
+
+refusal-nine : (n i : ℕ) → length (answer-bytes (refused n i)) ≡ 9
+unfolding answer-bytes words-bytes word-bytes
+refusal-nine n i = refl
+
+-- a refusal's bytes, in just as many
+pub refusal-told : (n i : ℕ) (bytes was out out′ : List ℕ) (long : ℕ) (r : Result (Unit {0}) Fault) → bytes ≡ answer-bytes (refused n i) ++ drop long was → long ≡ length (answer-bytes (refused n i)) → length was ≤ 9 →
+    ((a : Answer) → showable a ≡ true → bytes ≡ answer-bytes a → Appends (told-line a) out out′ r) → Appends (told-line (refused n i)) out out′ r
+refusal-told n i bytes was out out′ long r is size short tells =
+    let nine : length (answer-bytes (refused n i)) ≡ 9 = refusal-nine n i in
+    let none : drop long was ≡ [] = drop-all long was (omega arith) in
+    tells (refused n i) (refusal-shows n i) (is ∙ (ap (λ (xs : List ℕ). answer-bytes (refused n i) ++ xs) none ∙ append-nil (answer-bytes (refused n i))))
+
+-- a desk that was opened
+opened-limits : (n c u : ℕ) (ps more : List ℕ) → ps ≡ opened-pieces n c u ++ more → limits-of ps ≡ limits-for n c u
+opened-limits n c u ps more is =
+    let a : getD ps 0 0 ≡ n = ap (λ (xs : List ℕ). getD xs 0 0) is in
+    let b : getD ps 1 0 ≡ c = ap (λ (xs : List ℕ). getD xs 1 0) is in
+    let d : getD ps 2 0 ≡ u = ap (λ (xs : List ℕ). getD xs 2 0) is in
+    cc
+
+pub served : (n c u : ℕ) (cs ps us more file out out′ : List ℕ) (r : Result (Unit {0}) Fault) → ps ≡ opened-pieces n c u ++ more → Stands cs ps us new-desk →
+    ((d : Desk) → Reached (limits-of ps) d → Stands cs ps us d → Appends (told-lines (line-answers (limits-of ps) d (call-lines file))) out out′ r) →
+    Appends (told-lines (line-answers (limits-for n c u) new-desk (call-lines file))) out out′ r
+served n c u cs ps us more file out out′ r is stands answers =
+    subst (λ (l : Limits). Appends (told-lines (line-answers l new-desk (call-lines file))) out out′ r) (opened-limits n c u ps more is) (answers new-desk (reached-new (limits-of ps)) stands)
+
+-- the first line
+one-told : (a : Answer) → told-lines (a ∷ []) ≡ told-line a
+unfolding told-lines
+one-told a = append-nil (told-line a)
+
+told-one : (a : Answer) (as′ : List Answer) (out out′ : List ℕ) (r : Result (Unit {0}) Fault) → as′ ≡ a ∷ [] → Appends (told-line a) out out′ r → Appends (told-lines as′) out out′ r
+told-one a as′ out out′ r e h = subst (λ (bs : List ℕ). Appends bs out out′ r) (sym (ap told-lines e ∙ one-told a)) h
+
+pick-refused : (b : Bool) → pick b (refused 3 0 ∷ []) (refused 3 1 ∷ []) ≡ refused 3 (pick b 0 1) ∷ []
+pick-refused true = refl
+pick-refused false = refl
+
+pub limits-refused : (rd : Reading (List ℕ)) (n c u i : ℕ) (lines : List (List ℕ)) (out out′ : List ℕ) (r : Result (Unit {0}) Fault) → rd ≡ means (n ∷ (c ∷ (u ∷ []))) →
+    room-for n c u ≡ false → i ≡ pick (good-limits n c u) 0 1 → Appends (told-line (refused 3 i)) out out′ r → Appends (told-lines (answers-after rd lines)) out out′ r
+limits-refused rd n c u i lines out out′ r is none at h =
+    let under : answers-under n c u lines ≡ pick (good-limits n c u) (refused 3 0 ∷ []) (refused 3 1 ∷ []) =
+    ap (λ (b : Bool). pick (good-limits n c u) (pick b (line-answers (limits-for n c u) new-desk lines) (refused 3 0 ∷ [])) (refused 3 1 ∷ [])) none in
+    told-one (refused 3 i) (answers-after rd lines) out out′ r
+    (ap (λ (x : Reading (List ℕ)). answers-after x lines) is ∙ (under ∙ (pick-refused (good-limits n c u) ∙ ap (λ (k : ℕ). refused 3 k ∷ []) (sym at)))) h
+
+pub limits-served : (rd : Reading (List ℕ)) (n c u : ℕ) (lines : List (List ℕ)) (out out′ : List ℕ) (r : Result (Unit {0}) Fault) → rd ≡ means (n ∷ (c ∷ (u ∷ []))) →
+    room-for n c u ≡ true → Appends (told-lines (line-answers (limits-for n c u) new-desk lines)) out out′ r → Appends (told-lines (answers-after rd lines)) out out′ r
+limits-served rd n c u lines out out′ r is room h =
+    subst (λ (as′ : List Answer). Appends (told-lines as′) out out′ r) (sym (ap (λ (x : Reading (List ℕ)). answers-after x lines) is ∙ room-answers n c u lines room)) h
+
+pub limits-cease : (rd : Reading (List ℕ)) (i p : ℕ) (lines : List (List ℕ)) (out out′ : List ℕ) (r : Result (Unit {0}) Fault) → rd ≡ ceases i → p ≡ told-at i →
+    Appends (told-line (refused 1 p)) out out′ r → Appends (told-lines (answers-after rd lines)) out out′ r
+limits-cease rd i p lines out out′ r is at h =
+    told-one (refused 1 p) (answers-after rd lines) out out′ r (ap (λ (x : Reading (List ℕ)). answers-after x lines) is ∙ ap (λ (k : ℕ). refused 1 k ∷ []) (sym at)) h
+
+-- the whole file
+pub whole : (file first rest out out′ : List ℕ) → call-lines file ≡ first ∷ call-lines rest → out ≡ [] →
+    out′ ≡ out ++ told-lines (answers-after (limits-reading first) (call-lines rest)) → out′ ≡ transcript file
+whole file first rest out out′ lines none is =
+    is ∙ (ap (λ (xs : List ℕ). xs ++ told-lines (answers-after (limits-reading first) (call-lines rest))) none ∙ ap (λ (ls : List (List ℕ)). told-lines (file-answers ls)) (sym lines))
+
+pub whole-none : (file out : List ℕ) → call-lines file ≡ [] → out ≡ [] → out ≡ transcript file
+unfolding told-lines
+whole-none file out lines none = none ∙ ap (λ (ls : List (List ℕ)). told-lines (file-answers ls)) (sym lines)

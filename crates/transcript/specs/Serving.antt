@@ -36,7 +36,7 @@ pub record Call-done (cs ps us bs out cs′ ps′ us′ out′ : List ℕ) (r : 
 pub record Answered (cs ps us line out cs′ ps′ us′ out′ : List ℕ) (r : Result (Unit {0}) Fault) : Type 0 where
   pub sound : Sound cs′ ps′ us′
   pub limits : limits-of ps′ ≡ limits-of ps
-  pub line : (d : Desk) → Reached (limits-of ps) d → Stands cs ps us d →
+  pub answers : (d : Desk) → Reached (limits-of ps) d → Stands cs ps us d →
       Cases r (λ _. (out′ ≡ out ++ told-line (line-answer (limits-of ps) d (line-reading line))) × Stands cs′ ps′ us′ (line-after (limits-of ps) d (line-reading line))) Lacks
 
 -- Between two lines: memory stands for a desk at which the lines that are left are answered as they would have been from the start.
