@@ -5,11 +5,11 @@ use mathlib.Core.List.{List, [], _∷_, _++_}
 use Prim.Native.Nat.{ℕ, zero, suc, _+_, _*_, _/_, _<_, _≤_}
 use native.Mathlib.Omega.{arith}
 use lib.Dec.{leb, ltb}
-use lib.ListN.{length, getD, drop}
+use lib.ListN.{length, getD, drop, replicate}
 use Rattle.std.specs.Results.{Cases}
 use Rattle.std.specs.declared.result.Result.{Result}
 use Rattle.std.specs.declared.result.Result.the-variants.{Ok, Err}
-use Rattle.std.proofs.shelf.Lists.{append-assoc, append-nil, drop-all}
+use Rattle.std.proofs.shelf.Lists.{append-assoc, append-nil, drop-all, length-replicate}
 use Rattle.std.proofs.shelf.Results.{cases-weaker}
 use Rattle.std.proofs.shelf.Tests.{and-parts, leb-true, le-leb, lt-ltb}
 use Rattle.model.specs.Paper.{pick}
@@ -167,6 +167,10 @@ refusal-told n i bytes was out out′ long r is size short tells =
     let nine : length (answer-bytes (refused n i)) ≡ 9 = refusal-nine n i in
     let none : drop long was ≡ [] = drop-all long was (omega arith) in
     tells (refused n i) (refusal-shows n i) (is ∙ (ap (λ (xs : List ℕ). answer-bytes (refused n i) ++ xs) none ∙ append-nil (answer-bytes (refused n i))))
+
+-- an array of zeros is as long as was said
+pub long-as-said : (n : ℕ) → n ≤ length {A = ℕ} (replicate n 0)
+long-as-said n = let zero-byte : ℕ = 0 in omega (arith, length-replicate n zero-byte)
 
 -- a desk that was opened
 opened-limits : (n c u : ℕ) (ps more : List ℕ) → ps ≡ opened-pieces n c u ++ more → limits-of ps ≡ limits-for n c u

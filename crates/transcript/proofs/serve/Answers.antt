@@ -1,9 +1,9 @@
 use Rattle.std.specs.Of.Vec.{vec-items}
-use Rattle.transcript.proofs.Serving.{served}
+use Rattle.transcript.proofs.Serving.{long-as-said, served}
 use Rattle.transcript.proofs.serve.Needs as need
 
 pub answer-lines-requires : need.answer-lines-requires
-answer-lines-requires c κs = record { sound = c .in-Ok .ensures tt .1 .stands .sound; room = ? }
+answer-lines-requires c κs = record { sound = c .in-Ok .ensures tt .1 .stands .sound; room = long-as-said 262405 }
 
 pub returns : need.returns
 returns c =
