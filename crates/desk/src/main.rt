@@ -1,7 +1,7 @@
 // The desk as a program: reads a file of calls from standard input, and writes the answers to standard output.
+use std::error::AnyError;
 use std::io::Read;
 use std::io::Write;
-use std::error::AnyError;
 
 fn main(rt: LibcRuntime) -> Result<(), AnyError> {
     let heap = rt.alloc();

@@ -1,8 +1,8 @@
 -- The answers to the file of a list of calls are those of the model. Assumes nothing.
-use mathlib.Core.Path.{_≡_, refl, sym, ap, ap₂, subst, _∙_}
+use mathlib.Core.Path.{_≡_, refl, ap, _∙_}
 use mathlib.Core.Bool.{Bool, true, false, not, _&&_}
 use mathlib.Core.List.{List, [], _∷_, _++_}
-use Prim.Native.Nat.{ℕ, zero, suc, _+_, _/_, _%_, _^_, _<_, _≤_}
+use Prim.Native.Nat.{ℕ, _+_, _%_, _^_, _<_}
 use native.Mathlib.Omega.{arith}
 use lib.Chars.{codes}
 use lib.Dec.{eqb, ltb}
@@ -10,13 +10,12 @@ use Rattle.std.specs.Written.{decimal}
 use Rattle.std.specs.shelf.Lists.{All}
 use Rattle.std.proofs.shelf.Decimals.{decimal-by-steps}
 use Rattle.std.proofs.shelf.Elements.{all-append}
-use Rattle.std.proofs.shelf.Lists.{append-assoc}
 use Rattle.std.proofs.shelf.Tests.{and-parts, ltb-true, lt-ltb, ne-eqb, eqb-false, not-true}
 use Rattle.model.specs.Paper.{pick}
 use Rattle.model.specs.Calls.{Call, put, strikes, accepts, rejects, styles, undo, redo, show, find, count, change, save, Answer, Desk, Limits, after, answer, answers, new-desk}
 use Rattle.model.proofs.Rows.{by-test}
-use Rattle.text.specs.Lines.{Reading, means, ceases, line-reading, limits-reading, numbers-line, letter-line, letters-line, quoted-line, line-of, limits-line, small, readable, Reads-back, Limits-back}
-use Rattle.transcript.specs.Transcript.{onto, lines-of, passed-over, kept-lines, call-lines, line-answer, line-after, line-answers, room-for, limits-for, answers-under, answers-after, file-answers, told-lines, transcript, lines-for, file-for, all-sayable, Answers-calls}
+use Rattle.text.specs.Lines.{Reading, means, line-reading, numbers-line, letter-line, letters-line, quoted-line, line-of, limits-line, small, readable, Reads-back, Limits-back}
+use Rattle.transcript.specs.Transcript.{lines-of, passed-over, kept-lines, call-lines, line-answer, line-after, line-answers, limits-for, answers-after, file-answers, told-lines, lines-for, file-for, all-sayable, Answers-calls}
 use Rattle.transcript.proofs.Lines.{keeps}
 use Rattle.transcript.proofs.Serving.{room-parts, room-answers}
 
@@ -119,7 +118,7 @@ calls-told back l d (c ∷ cs) h =
     let is : line-reading (line-of c) ≡ means c = back c (p .0) in
     ap (line-answers l d) first
     ∙ (ap (λ (r : Reading Call). line-answer l d r ∷ line-answers l (line-after l d r) (call-lines (lines-for cs))) is
-    ∙ ap (λ (as′ : List Answer). answer l d c ∷ as′) (calls-told back l (after l d c) cs (p .1)))
+    ∙ ap (λ (others : List Answer). answer l d c ∷ others) (calls-told back l (after l d c) cs (p .1)))
 
 limits-small : (n c u : ℕ) → n < 4294967296 → c < 4294967296 → u < 4294967296 → small (n ∷ (c ∷ (u ∷ []))) ≡ true
 unfolding small

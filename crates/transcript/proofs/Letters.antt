@@ -1,13 +1,13 @@
 -- Every letter of a paper that calls made is a byte, so that every answer of its desk can be told. Assumes nothing.
 use mathlib.Core.Path.{_≡_, refl, sym, ap, subst, _∙_}
-use mathlib.Core.Bool.{Bool, true, false, _&&_, _||_}
-use mathlib.Core.Logic.{_⊎_, inl, inr, ⊎-elim}
+use mathlib.Core.Bool.{true, _&&_, _||_}
+use mathlib.Core.Logic.{⊎-elim}
 use mathlib.Core.List.{List, [], _∷_, _++_}
-use Prim.Native.Nat.{ℕ, zero, suc, _+_, _<_, _≤_}
+use Prim.Native.Nat.{ℕ, zero, suc, _+_, _<_}
 use native.Mathlib.Omega.{arith}
 use lib.Dec.{eqb, leb, ltb}
 use lib.ListN.{length, take, drop}
-use Rattle.std.specs.shelf.Lists.{All, Has}
+use Rattle.std.specs.shelf.Lists.{All}
 use Rattle.std.proofs.shelf.Elements.{all-take, all-drop, all-has, all-weaker}
 use Rattle.std.proofs.shelf.Tests.{and-parts, or-cases, eqb-true, leb-true, lt-ltb}
 use Rattle.model.specs.Paper.{pick, Cell, seen, view}

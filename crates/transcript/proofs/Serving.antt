@@ -2,9 +2,9 @@
 use mathlib.Core.Path.{_≡_, refl, sym, ap, subst, _∙_}
 use mathlib.Core.Bool.{Bool, true, false, _&&_}
 use mathlib.Core.List.{List, [], _∷_, _++_}
-use Prim.Native.Nat.{ℕ, zero, suc, _+_, _*_, _/_, _<_, _≤_}
+use Prim.Native.Nat.{ℕ, suc, _<_, _≤_}
 use native.Mathlib.Omega.{arith}
-use lib.Dec.{leb, ltb}
+use lib.Dec.{leb}
 use lib.ListN.{length, getD, drop, replicate}
 use Rattle.std.specs.Results.{Cases}
 use Rattle.std.specs.declared.result.Result.{Result}
@@ -14,19 +14,18 @@ use Rattle.std.proofs.shelf.Results.{cases-weaker}
 use Rattle.std.proofs.shelf.Tests.{and-parts, leb-true, le-leb, lt-ltb}
 use Rattle.model.specs.Paper.{pick}
 use Rattle.model.specs.Calls.{Call, Answer, refused, Desk, Limits, after, answer, new-desk}
-use Rattle.model.specs.Promise.{readable, all-below}
+use Rattle.model.specs.Promise.{all-below}
 use Rattle.model.specs.Origin.{Nothing-from-nowhere}
 use Rattle.codec.specs.Bytes.{word-bytes, words-bytes, call-bytes, answer-bytes}
 use Rattle.codec.specs.Reading as codec
 use Rattle.codec.proofs.ReadableIs.{readable-is}
 use Rattle.codec.proofs.ReadsBack.{reads-back}
-use Rattle.session.specs.Memory.{cells-words, pieces-words, limits-of, Sound, Stands, opened-pieces}
-use Rattle.session.specs.Contract.{Does, Done, Called, Opened, Opening, good-limits, enough}
-use Rattle.session.specs.declared.Refusal.{Refusal}
+use Rattle.session.specs.Memory.{limits-of, Sound, Stands, opened-pieces}
+use Rattle.session.specs.Contract.{Does, Done, Called, good-limits}
 use Rattle.text.specs.Lines.{Reading, means, ceases, line-reading, limits-reading, Bytes-of, Lacks}
 use Rattle.text.specs.Shown.{showable, answer-line}
 use Rattle.text.specs.declared.fault.Fault.{Fault}
-use Rattle.text.specs.declared.fault.Fault.the-variants.{Place, Memory}
+use Rattle.text.specs.declared.fault.Fault.the-variants.{Memory}
 use Rattle.transcript.specs.Transcript.{line-answer, line-after, line-answers, call-lines, room-for, limits-for, answers-under, answers-after, file-answers, told-at, told-line, told-lines, transcript}
 use Rattle.transcript.specs.Serving.{Appends, Reached, Call-done, Answered, Going}
 use Rattle.transcript.proofs.Letters.{answer-shows, refusal-shows, reached-after, reached-new}
@@ -130,7 +129,7 @@ going-lacks cs ps us file out cs₁ ps₁ us₁ rest₁ out₁ line cs₂ ps₂ 
     let reached₁ : Reached (limits-of ps₁) e = subst (λ (m : Limits). Reached m e) (sym (g .limits)) (s .1) in
     subst (λ (x : Result (Unit {0}) Fault). Cases x (λ _. (out₂ ≡ out₁ ++ told-line (line-answer (limits-of ps₁) e rd)) × Stands cs₂ ps₂ us₂ (line-after (limits-of ps₁) e rd)) Lacks) err (a .answers e reached₁ (s .2))
 
--- limits that there is room for: a desk can be opened with them, in slices of these lengths
+-- limits that there is room for: a desk can be opened with them
 pub room-parts : (n c u : ℕ) → room-for n c u ≡ true → (n ≤ 2048) × (c ≤ 128) × (u ≤ 2048)
 room-parts n c u h =
     let p = and-parts (leb n 2048) (leb c 128 && leb u 2048) h in
@@ -141,11 +140,6 @@ pub room-good : (n c u : ℕ) → room-for n c u ≡ true → good-limits n c u 
 room-good n c u h =
     let p = room-parts n c u h in
     rw (le-leb n 1000000 (omega (arith, p .0)), le-leb c 65536 (omega (arith, p .1)), le-leb u 1000000 (omega (arith, p .2))) refl
-
-pub room-enough : (n c u : ℕ) (cs ps us : List ℕ) → room-for n c u ≡ true → length cs ≡ 28672 → length ps ≡ 6416 → enough n c u cs ps us ≡ true
-room-enough n c u cs ps us h k m =
-    let p = room-parts n c u h in
-    rw (le-leb (cells-words n) (length cs) (omega (arith, p .0)), le-leb (pieces-words c) (length ps) (omega (arith, p .1)), le-leb 0 (length us) (omega arith)) refl
 
 -- the answers under such limits
 pub room-answers : (n c u : ℕ) (lines : List (List ℕ)) → room-for n c u ≡ true → answers-under n c u lines ≡ line-answers (limits-for n c u) new-desk lines
@@ -191,8 +185,8 @@ one-told : (a : Answer) → told-lines (a ∷ []) ≡ told-line a
 unfolding told-lines
 one-told a = append-nil (told-line a)
 
-told-one : (a : Answer) (as′ : List Answer) (out out′ : List ℕ) (r : Result (Unit {0}) Fault) → as′ ≡ a ∷ [] → Appends (told-line a) out out′ r → Appends (told-lines as′) out out′ r
-told-one a as′ out out′ r e h = subst (λ (bs : List ℕ). Appends bs out out′ r) (sym (ap told-lines e ∙ one-told a)) h
+told-one : (a : Answer) (others : List Answer) (out out′ : List ℕ) (r : Result (Unit {0}) Fault) → others ≡ a ∷ [] → Appends (told-line a) out out′ r → Appends (told-lines others) out out′ r
+told-one a others out out′ r e h = subst (λ (bs : List ℕ). Appends bs out out′ r) (sym (ap told-lines e ∙ one-told a)) h
 
 pick-refused : (b : Bool) → pick b (refused 3 0 ∷ []) (refused 3 1 ∷ []) ≡ refused 3 (pick b 0 1) ∷ []
 pick-refused true = refl
@@ -209,7 +203,7 @@ limits-refused rd n c u i lines out out′ r is none at h =
 pub limits-served : (rd : Reading (List ℕ)) (n c u : ℕ) (lines : List (List ℕ)) (out out′ : List ℕ) (r : Result (Unit {0}) Fault) → rd ≡ means (n ∷ (c ∷ (u ∷ []))) →
     room-for n c u ≡ true → Appends (told-lines (line-answers (limits-for n c u) new-desk lines)) out out′ r → Appends (told-lines (answers-after rd lines)) out out′ r
 limits-served rd n c u lines out out′ r is room h =
-    subst (λ (as′ : List Answer). Appends (told-lines as′) out out′ r) (sym (ap (λ (x : Reading (List ℕ)). answers-after x lines) is ∙ room-answers n c u lines room)) h
+    subst (λ (others : List Answer). Appends (told-lines others) out out′ r) (sym (ap (λ (x : Reading (List ℕ)). answers-after x lines) is ∙ room-answers n c u lines room)) h
 
 pub limits-cease : (rd : Reading (List ℕ)) (i p : ℕ) (lines : List (List ℕ)) (out out′ : List ℕ) (r : Result (Unit {0}) Fault) → rd ≡ ceases i → p ≡ told-at i →
     Appends (told-line (refused 1 p)) out out′ r → Appends (told-lines (answers-after rd lines)) out out′ r

@@ -1,15 +1,14 @@
 -- What the parts of the program promise. Definitions only: nothing is assumed.
 use mathlib.Core.Path.{_≡_}
 use mathlib.Core.Bool.{true, false}
-use mathlib.Core.List.{List, [], _∷_, _++_}
-use Prim.Native.Nat.{ℕ, _<_}
-use lib.ListN.{length}
+use mathlib.Core.List.{List, _++_}
+use Prim.Native.Nat.{ℕ}
 use Rattle.std.specs.declared.option.Option.{Option}
 use Rattle.std.specs.declared.option.Option.the-variants.{Some, None}
 use Rattle.std.specs.declared.result.Result.{Result}
 use Rattle.std.specs.Results.{Cases}
 use Rattle.model.specs.Paper.{pick}
-use Rattle.model.specs.Calls.{Call, Answer, Desk, Limits, after, answer, ran, new-desk}
+use Rattle.model.specs.Calls.{Call, Desk, Limits, after, answer, ran, new-desk}
 use Rattle.codec.specs.Bytes.{call-bytes}
 use Rattle.session.specs.Contract.{good-limits}
 use Rattle.session.specs.Memory.{limits-of, Sound, Stands}

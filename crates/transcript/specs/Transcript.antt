@@ -1,6 +1,6 @@
 -- What the answers to a file of calls are, byte by byte. Definitions only: nothing is assumed.
 use mathlib.Core.Path.{_≡_}
-use mathlib.Core.Bool.{Bool, true, false, _&&_}
+use mathlib.Core.Bool.{Bool, true, _&&_}
 use mathlib.Core.List.{List, [], _∷_, _++_}
 use Prim.Native.Nat.{ℕ, min}
 use lib.Dec.{leb, eqb}
@@ -77,7 +77,7 @@ told-line a = answer-line a ++ (10 ∷ [])
 
 unfoldable pub told-lines : List Answer → List ℕ
 told-lines [] = []
-told-lines (a ∷ as′) = told-line a ++ told-lines as′
+told-lines (a ∷ others) = told-line a ++ told-lines others
 
 -- the bytes of the answers to a file
 abbrev pub transcript : List ℕ → List ℕ

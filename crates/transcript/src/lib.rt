@@ -1,7 +1,7 @@
 // The answers to a file of calls, a line for each. What they are is in specs/.
 ghost use mathlib.Core.Path.{_≡_};
 ghost use mathlib.Core.Bool.{true};
-ghost use mathlib.Core.List.{[], _∷_, _++_};
+ghost use mathlib.Core.List.{[], _∷_};
 ghost use Prim.Native.Nat.{_<_, _≤_, min};
 ghost use lib.ListN.{length};
 ghost use Rattle.std.specs.Of.Vec.{vec-items};
@@ -21,13 +21,18 @@ use text::Fault;
 
 // The most that the program has room for.
 const MOST_CELLS: u32 = 2048;
+
 const MOST_CHANGES: u32 = 128;
+
 const MOST_UNDOS: u32 = 2048;
 
 // How many words and bytes it lends: what the session asks for under those limits, and the longest answer.
 const CELLS_WORDS: usize = 28672;
+
 const PIECES_WORDS: usize = 6416;
+
 const UNDO_WORDS: usize = 1;
+
 const ANSWER_BYTES: usize = 262405;
 
 // The first line of a file, and what comes after it. A line ends with byte 10 or with the file.

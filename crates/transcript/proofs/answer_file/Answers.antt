@@ -1,4 +1,4 @@
-use mathlib.Core.Path.{_≡_, ap, _∙_}
+use mathlib.Core.Path.{ap, _∙_}
 use Rattle.std.specs.Of.Vec.{vec-items}
 use Rattle.transcript.proofs.Serving.{whole, whole-none}
 use Rattle.transcript.proofs.answer_file.Needs as need
