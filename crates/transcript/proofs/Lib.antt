@@ -1,0 +1,4 @@
+mod Lines
+mod Letters
+mod Serving
+mod Calls
