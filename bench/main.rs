@@ -9,8 +9,8 @@ use rng::Rng;
 use std::time::{Duration, Instant};
 
 /// What a size is called, and how many cells the paper is filled with. The limits allow ROOM more.
-const SIZES: [(&str, u32); 3] = [("10^4", 10_000), ("10^5", 100_000), ("10^6", 990_000)];
-const ROOM: u32 = 10_000;
+const SIZES: [(&str, u32); 3] = [("10^4", 10_000), ("10^5", 100_000), ("10^6", 980_000)];
+const ROOM: u32 = 20_000;
 const CHANGES: u32 = 65_536;
 const UNDOS: u32 = 100_000;
 const WIDTH: u32 = 64;
@@ -28,6 +28,8 @@ type Case = (&'static str, fn(&mut Rng, &List) -> Vec<Step>);
 const CASES: &[Case] = &[
     ("put 1 letter", |rng, list| puts(rng, list, 505, 1, 5)),
     ("put 20 letters", |rng, list| puts(rng, list, 105, 20, 5)),
+    ("put 1 letter, once in use", |rng, list| puts(rng, list, in_use(list) + 500, 1, in_use(list))),
+    ("put 20 letters, once in use", |rng, list| puts(rng, list, 105, 20, 5)),
     ("count, way 0", |_, _| timed(100, |_| Op::Count { way: 0 })),
     ("count, way 1", |_, _| timed(100, |_| Op::Count { way: 1 })),
     ("count, way 2", |_, _| timed(100, |_| Op::Count { way: 2 })),
@@ -98,6 +100,11 @@ fn puts(rng: &mut Rng, list: &List, count: u32, long: u32, untimed: u32) -> Vec<
             (i >= untimed, Op::Put { author: i % 4, place, letters })
         })
         .collect()
+}
+
+/// A paper that was just filled by whole blocks is used at some place in each block first: in a large one 500 puts would not get there.
+fn in_use(list: &List) -> u32 {
+    list.len() / 512
 }
 
 /// Changes of 20 cells each, then each of them decided.
@@ -251,7 +258,7 @@ fn main() {
     let can: [bool; 12] = std::array::from_fn(|which| Desk::can(which as u8));
     println!("Mean time of a call in microseconds, each call's the best of {RUNS} runs: the desk through its C interface, beside a plain Vec of 16-byte cells.");
     println!("Warmed before timing: all lent memory is written and the paper filled by calls of up to 1,024 letters at random places;");
-    println!("a case that only reads is run once before, one that puts letters five times. Limits: {ROOM} cells more than the fill (990,000 at 10^6).");
+    println!("a case that only reads is run once before, one that puts letters five times. Limits: {ROOM} cells more than the fill (980,000 at 10^6).");
     println!("list/desk: how many times as long the list takes. growth: the time at 10^6 over the time at 10^4.");
     println!();
     print!("{:28}", "");
