@@ -1,11 +1,10 @@
 // The C interface: a slice is passed as a pointer and a length. include/desk.h tells what a caller has to know.
 ghost use Prim.Native.Nat.{_≤_};
-ghost use Rattle.capi.specs.Interface.{Calls, Opens, code, long-enough, words-told};
+ghost use Rattle.capi.specs.Interface.{Call-returns, Callable, Open-returns, Stays-callable, code, long-enough, words-told};
 ghost use Rattle.session.specs.Contract.{good-limits};
-ghost use Rattle.session.specs.Memory.{Sound};
 ghost use lib.Dec.{leb};
 ghost use lib.ListN.{length};
-ghost use mathlib.Core.Bool.{_&&_, true};
+ghost use mathlib.Core.Bool.{_&&_};
 ghost use mathlib.Core.Path.{_≡_};
 use session::Limits;
 
@@ -46,7 +45,7 @@ pub extern "C" fn desk_open(
     max_changes: u32,
     max_undos: u32,
 ) -> i64
-    ensures { λ r. ⌜ Opens r «max_cells» «max_changes» «max_undos» (now (cells .entry)) (now (pieces .entry)) (now (undo .entry)) (now (cells .exit)) (now (pieces .exit)) (now (undo .exit)) ⌝ }
+    ensures { λ r. ⌜ Open-returns r «max_cells» «max_changes» «max_undos» (now (cells .entry)) (now (pieces .entry)) (now (undo .entry)) (now (cells .exit)) (now (pieces .exit)) (now (undo .exit)) ⌝ }
 {
     let limits = Limits {
         cells: max_cells,
@@ -68,8 +67,8 @@ pub extern "C" fn desk_call(
     call: &[u8],
     answer: &mut [u8],
 ) -> i64
-    requires { ⌜ (long-enough (now cells) (now pieces) (now undo) ≡ true → Sound (now cells) (now pieces) (now undo)) ⌝ }
-    ensures { λ r. ⌜ Calls (long-enough (now (cells .entry)) (now (pieces .entry)) (now (undo .entry)) && leb 262405 (length (now (answer .entry)))) r (now (cells .entry)) (now (pieces .entry)) (now (undo .entry)) (now (call .entry)) (now (answer .entry)) (now (cells .exit)) (now (pieces .exit)) (now (undo .exit)) (now (answer .exit)) ⌝ }
+    requires { ⌜ Callable (now cells) (now pieces) (now undo) ⌝ }
+    ensures { λ r. ⌜ Call-returns (long-enough (now (cells .entry)) (now (pieces .entry)) (now (undo .entry)) && leb 262405 (length (now (answer .entry)))) r (now (cells .entry)) (now (pieces .entry)) (now (undo .entry)) (now (call .entry)) (now (answer .entry)) (now (cells .exit)) (now (pieces .exit)) (now (undo .exit)) (now (answer .exit)) ⌝ }
 {
     if suffices(cells, pieces, undo) & (ANSWER_BYTES <= answer.len()) {
         session::call(cells, pieces, undo, call, answer) as i64
@@ -109,4 +108,11 @@ fn refused(number: u32, place: u32) -> i64
     ensures { λ r. ⌜ r ≡ code number place ⌝ }
 {
     -(number as i64 * 4_294_967_296 + place as i64)
+}
+
+// What desk_call asks of memory holds once desk_open has opened it, and after every desk_call.
+pub fn stays_callable() -> u8
+    ensures { λ _. ⌜ Stays-callable ⌝ }
+{
+    0
 }
