@@ -2,7 +2,8 @@
  *
  * The desk allocates nothing: it works in three arrays of 32-bit words that the caller lends at every call, and keeps everything
  * there. Between calls the caller must not write to them; copying all three elsewhere copies the desk. The arrays must not overlap,
- * nor the call or the answer with them. A desk has no state besides, so different desks may be used by different threads.
+ * nor the call or the answer with them, and no pointer may be null, not even for an array of length 0. A desk has no state besides,
+ * so different desks may be used by different threads.
  *
  * Limits. A desk is opened with three: how many cells its paper may have (up to 1,000,000), how many changes (up to 65,536), and how
  * much can be undone (up to 1,000,000; a call that writes counts one and the cells that it is about).
@@ -75,7 +76,7 @@ enum { DESK_CELLS = 0, DESK_PIECES = 1, DESK_UNDO = 2 };
 
 /* How many 32-bit words an array needs for these limits: which is DESK_CELLS, DESK_PIECES or DESK_UNDO. It may be 0. All three
  * together are at most 8 for each cell and change, 16 for each that can be undone, and 65,536 more.
- * Limits out of range are refused: -(3 * 2^32 + 1). */
+ * Refused: any other which, -(2 * 2^32); limits out of range, -(3 * 2^32 + 1). */
 int64_t desk_words(uint32_t which, uint32_t max_cells, uint32_t max_changes, uint32_t max_undos);
 
 /* Opens a desk with an empty paper in the arrays, whatever they hold; they may be longer than asked for. Returns 0.
@@ -85,7 +86,10 @@ int64_t desk_open(uint32_t *cells, size_t cells_len, uint32_t *pieces, size_t pi
 
 /* Does a call at a desk that desk_open opened in these arrays. The answer is written from answer[0] on, also if the call is refused
  * (it is then 9 bytes, the first of which is 0), and its length is returned; the bytes after it stay as they were.
- * If an array is shorter than the desk's limits ask for, or answer_len is less than DESK_ANSWER_BYTES: -1, with nothing touched. */
+ * If an array is shorter than the desk's limits ask for, or answer_len is less than DESK_ANSWER_BYTES: -1, with nothing touched.
+ * The limits are kept in the first three words of the pieces: -1 too if there are fewer words, or if those are no limits. That is all
+ * that is looked at: arrays that are long enough but that desk_open never opened, or that something else has written to since, may
+ * make the desk read and write anywhere. */
 int64_t desk_call(uint32_t *cells, size_t cells_len, uint32_t *pieces, size_t pieces_len, uint32_t *undo, size_t undo_len,
                   const uint8_t *call, size_t call_len, uint8_t *answer, size_t answer_len);
 

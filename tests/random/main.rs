@@ -154,6 +154,11 @@ impl Pair {
             let lent = if rng.percent(50) { memory.lent } else { [0; 3] };
             same(&format!("desk_open with {l:?}"), memory.open_with(lent, l), refused(3, 1))?;
         }
+        for which in [3, 4, 1 << 31, u32::MAX] {
+            let l = if rng.percent(50) { limits } else { too_much[0] };
+            let words = unsafe { desk::desk_words(which, l.cells, l.changes, l.undos) };
+            same(&format!("desk_words({which})"), words, refused(2, 0))?;
+        }
         for w in 0..3 {
             if asked[w] > 0 {
                 let mut lent = memory.lent;
@@ -199,6 +204,16 @@ impl Pair {
                 let told = self.memory.call_with(lent, call, &mut self.answer[..end]);
                 same(&format!("desk_call with {} of {} words of {}", lent[w], self.memory.asked[w], NAMES[w]), told, -1)?;
             }
+        }
+        for limit in 0..3 {
+            let was = self.memory.words[1][limit];
+            let wrong = rng.pick(&[MOST_CELLS + 1, u32::MAX]);
+            self.memory.words[1][limit] = wrong;
+            let end = self.lent_answer();
+            let told = self.memory.call_with(self.memory.lent, call, &mut self.answer[..end]);
+            same(&format!("desk_call with {wrong} as limit {limit}"), told, -1)?;
+            same(&format!("limit {limit} after a call that took it for no limit"), self.memory.words[1][limit], wrong)?;
+            self.memory.words[1][limit] = was;
         }
         self.memory.same_all(&before, "by a call with too short an array")?;
         if self.answer != self.pattern {
@@ -300,11 +315,15 @@ fn plan(rng: &mut Rng, number: u64, calls: u64) -> Plan {
             Plan { limits, put_up_to: rng.pick(&[5, 10, 40, 200, 1024]), fill: 0, fill_by: 1, calls }
         }
         _ => {
-            // many pieces, filled to the brim
-            let cells = rng.between(3_000, 40_000);
-            let limits = Limits { cells: cells as u32, changes: changes.max(300), undos: rng.pick(&[0, 300, 3000, 20_000]) };
+            // many pieces, filled to the brim; in a long run half of them by many small puts
+            let slowly = calls >= 1000 && rng.percent(50);
+            let cells = if slowly { 10 * calls.min(MOST_CELLS as u64 / 10) } else { rng.between(3_000, 40_000) };
+            let changes = if slowly { MOST_CHANGES } else { changes.max(300) };
+            let limits = Limits { cells: cells as u32, changes, undos: rng.pick(&[0, 300, 3000, 20_000]) };
             let fill_by = rng.pick(&[1024, 1023, 700, 513, 100]);
-            Plan { limits, put_up_to: rng.pick(&[30, 600, 1024]), fill: rng.below(cells / fill_by + 2), fill_by, calls }
+            let fill = if slowly { 0 } else { rng.below(cells / fill_by + 2) };
+            let put_up_to = if slowly { rng.pick(&[2, 10, 30]) } else { rng.pick(&[30, 600, 1024]) };
+            Plan { limits, put_up_to, fill, fill_by, calls }
         }
     }
 }

@@ -32,6 +32,9 @@ fn refused(number: i64, place: i64) -> i64 {
 
 #[unsafe(no_mangle)]
 pub extern "C" fn desk_words(which: u32, cells: u32, changes: u32, undos: u32) -> i64 {
+    if which > 2 {
+        return refused(2, 0);
+    }
     match Desk::open(stage(), cells, changes, undos) {
         Ok(_) => asked(cells, changes, undos)[which as usize] as i64,
         Err(_) => refused(3, 1),
@@ -69,6 +72,9 @@ pub unsafe extern "C" fn desk_call(
     let lent = unsafe { [std::slice::from_raw_parts_mut(cells, cells_len), std::slice::from_raw_parts_mut(pieces, pieces_len), std::slice::from_raw_parts_mut(undo, undo_len)] };
     let (call, answer) = unsafe { (std::slice::from_raw_parts(call, call_len), std::slice::from_raw_parts_mut(answer, answer_len)) };
     if lent[1].len() < 3 || answer.len() < ANSWER_BYTES {
+        return -1;
+    }
+    if Desk::open(stage(), lent[1][0], lent[1][1], lent[1][2]).is_err() {
         return -1;
     }
     let asked = asked(lent[1][0], lent[1][1], lent[1][2]);
