@@ -40,12 +40,11 @@ relent ps w long lw rest =
     let start : 16 ≤ length ps = omega arith in
     let m : q ≡ take 16 ps ++ w = lent 16 ps w start in
     let lt : length (take 16 ps) ≡ 16 = length-take-le 16 ps start in
-    let d : drop 16 q ≡ w = ap (drop 16) m ∙ lent-after 16 ps w start in
-    (
+    let d : drop 16 q ≡ w = ap (drop 16) m ∙ lent-after 16 ps w start in (
       (λ i h. ap (λ (xs : List ℕ). getD xs i 0) m ∙ lent-before 16 ps w i start h),
       d,
       sym (drop-drop (2 * c) 16 q) ∙ (ap (drop (2 * c)) d ∙ (rest ∙ drop-drop (2 * c) 16 ps)),
-      ap length m ∙ (length-append (take 16 ps) w ∙ omega arith)
+      ap length m ∙ (length-append (take 16 ps) w ∙ omega arith),
     )
 
 pub noted : (ps w : List ℕ) (a : ℕ) → let n : ℕ = getD ps 3 0 in n < getD ps 1 0 → 16 + 2 * getD ps 1 0 ≤ length ps → w ≡ set (set (drop 16 ps) (2 * n) a) (2 * n + 1) 0 →
@@ -57,9 +56,9 @@ noted ps w a less long is row =
     let mid : List ℕ = putMid 16 (length ps - 16) ps w in
     let q : List ℕ = set mid 3 (n + 1) in
     let lw : length w ≡ length ps - 16 =
-        ap length is ∙ (length-set (set (drop 16 ps) (2 * n) a) (2 * n + 1) 0 ∙ (length-set (drop 16 ps) (2 * n) a ∙ length-drop 16 ps)) in
+    ap length is ∙ (length-set (set (drop 16 ps) (2 * n) a) (2 * n + 1) 0 ∙ (length-set (drop 16 ps) (2 * n) a ∙ length-drop 16 ps)) in
     let rest : drop (2 * c) w ≡ drop (2 * c) (drop 16 ps) =
-        ap (drop (2 * c)) is ∙ (drop-set-lt (2 * c) (set (drop 16 ps) (2 * n) a) (2 * n + 1) 0 (omega arith) ∙ drop-set-lt (2 * c) (drop 16 ps) (2 * n) a (omega arith)) in
+    ap (drop (2 * c)) is ∙ (drop-set-lt (2 * c) (set (drop 16 ps) (2 * n) a) (2 * n + 1) 0 (omega arith) ∙ drop-set-lt (2 * c) (drop 16 ps) (2 * n) a (omega arith)) in
     let facts : ((i : ℕ) → i < 16 → getD mid i 0 ≡ getD ps i 0) × (drop 16 mid ≡ w) × (drop (16 + 2 * c) mid ≡ drop (16 + 2 * c) ps) × (length mid ≡ length ps) = relent ps w long lw rest in
     let same : (i : ℕ) → i < 3 → getD q i 0 ≡ getD ps i 0 = λ i h. let ne : i ≢ 3 = omega arith in getD-set-other mid 3 i (n + 1) 0 ne ∙ facts .0 i (omega arith) in
     let g0 : getD q 0 0 ≡ getD ps 0 0 = same 0 (omega arith) in
@@ -70,7 +69,7 @@ noted ps w a less long is row =
     let t : tables q ≡ tables ps = ap (λ (k : ℕ). drop (16 + 2 * k) q) g1 ∙ (drop-set-lt (16 + 2 * c) mid 3 (n + 1) (omega arith) ∙ facts .2) in
     let limits : limits-of q ≡ limits-of ps = cc in
     let rows : changes-of (drop 16 q) (getD q 3 0) ≡ row-of ps ++ (record { author = a; became = 0 } ∷ []) =
-        ap (λ (k : ℕ). changes-of (drop 16 q) k) g3 ∙ (ap (λ (xs : List ℕ). changes-of xs (n + 1)) d ∙ row) in
+    ap (λ (k : ℕ). changes-of (drop 16 q) k) g3 ∙ (ap (λ (xs : List ℕ). changes-of xs (n + 1)) d ∙ row) in
     record { limits = limits; tables = t; changes = rows; fits = omega arith; words = length-set mid 3 (n + 1) ∙ facts .3 }
 
 pub judged : (ps w : List ℕ) (k b : ℕ) → let n : ℕ = getD ps 3 0 in k < n → n ≤ getD ps 1 0 → 16 + 2 * getD ps 1 0 ≤ length ps → w ≡ set (drop 16 ps) (2 * k + 1) b →
@@ -89,5 +88,5 @@ judged ps w k b there few long is row =
     let t : tables q ≡ tables ps = ap (λ (m : ℕ). drop (16 + 2 * m) q) g1 ∙ facts .2 in
     let limits : limits-of q ≡ limits-of ps = cc in
     let rows : changes-of (drop 16 q) (getD q 3 0) ≡ with-became (row-of ps) k b =
-        ap (λ (m : ℕ). changes-of (drop 16 q) m) g3 ∙ (ap (λ (xs : List ℕ). changes-of xs n) (facts .1) ∙ row) in
+    ap (λ (m : ℕ). changes-of (drop 16 q) m) g3 ∙ (ap (λ (xs : List ℕ). changes-of xs n) (facts .1) ∙ row) in
     record { limits = limits; tables = t; changes = rows; fits = omega arith; words = facts .3 }

@@ -47,7 +47,7 @@ module _ (cs ps : List ℕ) (held : Held cs ps) (k : ℕ) where
       let a : getD (paper-of cs ps .changes) k (record { author = 0; became = 0 }) ≡ x = change-here (record { author = 0; became = 0 }) h ∙ sym is in
       let b : getD (paper-of cs ps .changes) k (record { author = 0; became = 3 }) ≡ x = change-here (record { author = 0; became = 3 }) h ∙ sym is in
       let says : two (getD (paper-of cs ps .changes) k (record { author = 0; became = 0 }) .author) (became (paper-of cs ps) k) ≡ two (x .author) (x .became) =
-          ap₂ (λ (y z : Change). two (y .author) (z .became)) a b in
+      ap₂ (λ (y z : Change). two (y .author) (z .became)) a b in
       subst (λ r. Acted cs ps (change k) cs ps r) says
       (looked cs ps (change k) held (turned-not (limits-of ps) (desk-of cs ps) (change k) refl (rw (there h) refl) (fits-now cs ps held)) refl refl)
 
@@ -118,11 +118,11 @@ module _ (cs ps : List ℕ) (held : Held cs ps) (k : ℕ) where
       let p : Paper = paper-of cs ps in
       let b : eqb (became p k) 0 ≡ true = eq-eqb (became p k) 0 (became-is x h is ∙ open-still) in
       let t : turned (limits-of ps) (desk-of cs ps) (verdict-call v k) ≡ 0 =
-          turned-not (limits-of ps) (desk-of cs ps) (verdict-call v k) (good-is v) (turned-is v ∙ rw (there h, b) refl) (fit v) in
+      turned-not (limits-of ps) (desk-of cs ps) (verdict-call v k) (good-is v) (turned-is v ∙ rw (there h, b) refl) (fit v) in
       let row : row-of ps′ ≡ p .changes = ap (λ (r : Paper). r .changes) (w .paper) in
       let rows : List Change = with-became (p .changes) k (verdict-became v) in
       let xs : List Cell = swept (verdict-action v k) (row-of ps) (p .cells) in
       let all : Wrote cs ps cs′ qs (record { cells = xs; changes = rows }) =
-          rowed-too cs ps cs′ ps′ qs (with-cells p xs) rows w (subst (λ (rs : List Change). Rowed ps′ qs (with-became rs k (verdict-became v))) row note) in
+      rowed-too cs ps cs′ ps′ qs (with-cells p xs) rows w (subst (λ (rs : List Change). Rowed ps′ qs (with-became rs k (verdict-became v))) row note) in
       let done : Wrote cs ps cs′ qs (rewritten p (verdict-call v k)) = subst (λ (r : Paper). Wrote cs ps cs′ qs r) (sym (rewritten-is v)) all in
       subst (λ r. Acted cs ps (verdict-call v k) cs′ qs r) (told-is v) (wrote-it cs ps cs′ qs (verdict-call v k) t (wrote-is v) done)

@@ -93,6 +93,6 @@ module _ {cs ps : List ℕ} (held : Held cs ps) {n : ℕ} (counts : n ≡ before
       let t : turned (limits-of ps) (desk-of cs ps) (put a i s ls) ≡ 0 = turned-not (limits-of ps) (desk-of cs ps) (put a i s ls) good-put (there h) (fit ∙ k) in
       let new : m ≡ length (p .changes) = f ∙ sym (changes-counted cs ps) in
       let done : Wrote cs ps cs′ qs (rewritten p (put a i s ls)) =
-          rw (e, new) at (rowed-too cs ps cs′ ps′ qs (with-cells p (take at (p .cells) ++ (new-cells ls s m ++ drop at (p .cells)))) rows w
-              (subst (λ (rs : List Change). Rowed ps′ qs (rs ++ (record { author = a; became = 0 } ∷ []))) row note)) in
+      rw (e, new) at (rowed-too cs ps cs′ ps′ qs (with-cells p (take at (p .cells) ++ (new-cells ls s m ++ drop at (p .cells)))) rows w
+      (subst (λ (rs : List Change). Rowed ps′ qs (rs ++ (record { author = a; became = 0 } ∷ []))) row note)) in
       rw new (wrote-it cs ps cs′ qs (put a i s ls) t refl done)

@@ -84,12 +84,12 @@ module _ (cs ps : List ℕ) (held : Held cs ps) where
         let inside : i + n ≤ length (paper-of cs ps .cells) = omega (arith, leb-true (i + n) (before (tables ps) (slots-of ps)) h, cells-there) in
         let ys : List Cell = rewritten (paper-of cs ps) (strikes a i n) .cells in
         let short : length ys ≤ length (paper-of cs ps .cells) =
-            subst (λ (zs : List Cell). length zs ≤ length (paper-of cs ps .cells)) (sym struck-is)
-            (length-swept-run (Strike a (getD ps 3 0)) (paper-of cs ps .changes) (paper-of cs ps .cells) i n inside) in
+        subst (λ (zs : List Cell). length zs ≤ length (paper-of cs ps .cells)) (sym struck-is)
+        (length-swept-run (Strike a (getD ps 3 0)) (paper-of cs ps .changes) (paper-of cs ps .cells) i n inside) in
         let x : leb (length ys) (getD ps 0 0) ≡ leb (before (tables ps) (slots-of ps)) (getD ps 0 0) =
-            few-enough ys short ∙ sym (le-leb (before (tables ps) (slots-of ps)) (getD ps 0 0) (omega (arith, held .cells-fit, cells-there))) in
+        few-enough ys short ∙ sym (le-leb (before (tables ps) (slots-of ps)) (getD ps 0 0) (omega (arith, held .cells-fit, cells-there))) in
         let y : length (rewritten (paper-of cs ps) (strikes a i n) .changes) ≡ suc (getD ps 3 0) =
-            length-append (paper-of cs ps .changes) (record { author = a; became = 0 } ∷ []) ∙ omega (arith, changes-there) in
+        length-append (paper-of cs ps .changes) (record { author = a; became = 0 } ∷ []) ∙ omega (arith, changes-there) in
         ap₂ _&&_ x (ap (λ (m : ℕ). leb m (getD ps 1 0)) y)
 
     pub strike-nowhere : leb (i + n) (before (tables ps) (slots-of ps)) ≡ false → Acted cs ps (strikes a i n) cs ps (refused 4 1)
@@ -110,9 +110,9 @@ module _ (cs ps : List ℕ) (held : Held cs ps) where
         let rows : List Change = p .changes ++ (record { author = a; became = 0 } ∷ []) in
         let row : row-of ps′ ≡ p .changes = ap (λ (r : Paper). r .changes) (w .paper) in
         let t : turned (limits-of ps) (desk-of cs ps) (strikes a i n) ≡ 0 =
-            turned-not (limits-of ps) (desk-of cs ps) (strikes a i n) good-strike (struck-there true h) (struck-fit h ∙ k) in
+        turned-not (limits-of ps) (desk-of cs ps) (strikes a i n) good-strike (struck-there true h) (struck-fit h ∙ k) in
         let all : Wrote cs ps cs′ qs (record { cells = xs; changes = rows }) =
-            rowed-too cs ps cs′ ps′ qs (with-cells p xs) rows w (subst (λ (rs : List Change). Rowed ps′ qs (rs ++ (record { author = a; became = 0 } ∷ []))) row note) in
+        rowed-too cs ps cs′ ps′ qs (with-cells p xs) rows w (subst (λ (rs : List Change). Rowed ps′ qs (rs ++ (record { author = a; became = 0 } ∷ []))) row note) in
         let done : Wrote cs ps cs′ qs (rewritten p (strikes a i n)) = subst (λ (ys : List Cell). Wrote cs ps cs′ qs (record { cells = ys; changes = rows })) (sym struck-is) all in
         subst (λ (m : ℕ). Acted cs ps (strikes a i n) cs′ qs (number m)) changes-there (wrote-it cs ps cs′ qs (strikes a i n) t refl done)
 
@@ -135,8 +135,8 @@ module _ (cs ps : List ℕ) (held : Held cs ps) where
         let inside : i + n ≤ length (paper-of cs ps .cells) = omega (arith, leb-true (i + n) (before (tables ps) (slots-of ps)) h, cells-there) in
         let ys : List Cell = rewritten (paper-of cs ps) (styles i n s) .cells in
         let short : length ys ≤ length (paper-of cs ps .cells) =
-            subst (λ (zs : List Cell). length zs ≤ length (paper-of cs ps .cells)) (sym styled-is)
-            (length-swept-run (Style s) (paper-of cs ps .changes) (paper-of cs ps .cells) i n inside) in
+        subst (λ (zs : List Cell). length zs ≤ length (paper-of cs ps .cells)) (sym styled-is)
+        (length-swept-run (Style s) (paper-of cs ps .changes) (paper-of cs ps .cells) i n inside) in
         let y : leb (length (paper-of cs ps .changes)) (getD ps 1 0) ≡ true = le-leb (length (paper-of cs ps .changes)) (getD ps 1 0) (omega (arith, held .changes-fit, changes-there)) in
         ap₂ _&&_ (few-enough ys short) y
 
@@ -149,5 +149,5 @@ module _ (cs ps : List ℕ) (held : Held cs ps) where
     unfolding told writes rewritten
     style-done cs′ ps′ h w =
         let t : turned (limits-of ps) (desk-of cs ps) (styles i n s) ≡ 0 =
-            turned-not (limits-of ps) (desk-of cs ps) (styles i n s) good-style (styled-there true h) (styled-fit h) in
+        turned-not (limits-of ps) (desk-of cs ps) (styles i n s) good-style (styled-there true h) (styled-fit h) in
         wrote-it cs ps cs′ ps′ (styles i n s) t refl (subst (λ (ys : List Cell). Wrote cs ps cs′ ps′ (with-cells (paper-of cs ps) ys)) (sym styled-is) w)

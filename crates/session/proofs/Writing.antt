@@ -87,7 +87,7 @@ swept-too cs ps cs′ ps′ xs held edited head few =
     let b : ℕ = 16 + 2 * getD ps 1 0 in
     let start : b ≤ length ps = omega (arith, held .pieces-long) in
     let is : putMid b (length ps - b) ps (drop b ps′) ≡ ps′ =
-        lent b ps (drop b ps′) start ∙ (ap (λ (ws : List ℕ). ws ++ drop b ps′) (sym head) ∙ take-append-drop b ps′) in
+    lent b ps (drop b ps′) start ∙ (ap (λ (ws : List ℕ). ws ++ drop b ps′) (sym head) ∙ take-append-drop b ps′) in
     subst (λ (qs : List ℕ). Wrote cs ps cs′ qs (with-cells (paper-of cs ps) xs)) is (restored cs ps cs′ (drop b ps′) xs held (edited .store) (edited .frame) (edited .text) few)
 
 -- the row of changes was written after that

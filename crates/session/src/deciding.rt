@@ -13,16 +13,14 @@ ghost use lib.Dec.{leb};
 ghost use lib.ListN.{drop, getD, length};
 ghost use mathlib.Core.Bool.{false, true};
 ghost use mathlib.Core.Path.{_≡_};
-
-use codec::Answer;
-use model::Change;
-use sweep::Action;
-use sweep::Places;
-
 use super::HEAD;
 use super::add_change;
 use super::count_cells;
 use super::room;
+use codec::Answer;
+use model::Change;
+use sweep::Action;
+use sweep::Places;
 
 // What becomes of a change that is decided.
 #[derive(Clone, Copy)]
@@ -71,7 +69,11 @@ fn sweep_all(cells: &mut [u32], pieces: &mut [u32], action: Action)
 fn run_in(total: usize, place: u32, count: u32) -> Option<usize>
     ensures { λ r. ⌜ elim r [ Some at ↦ (at ≡ place) × (leb (place + count) total ≡ true) | None ↦ leb (place + count) total ≡ false ] ⌝ }
 {
-    if place as usize + count as usize <= total { Some(place as usize) } else { None }
+    if place as usize + count as usize <= total {
+        Some(place as usize)
+    } else {
+        None
+    }
 }
 
 // An author strikes out cells, from one on: a new change, whose number is the answer.
@@ -116,7 +118,11 @@ fn find_change(pieces: &[u32], change: u32) -> Option<Change>
     requires long { ⌜ pieces-words (getD (now pieces) 1 0) ≤ length (now pieces) ⌝ }
     ensures { λ r. ⌜ elim r [ Some x ↦ (change < getD (now (pieces .entry)) 3 0) × (change-of x ≡ change-at (drop 16 (now (pieces .entry))) change) | None ↦ getD (now (pieces .entry)) 3 0 ≤ change ] ⌝ }
 {
-    if change < pieces[3] { Some(changes::read(&pieces[HEAD..], change as usize)) } else { None }
+    if change < pieces[3] {
+        Some(changes::read(&pieces[HEAD..], change as usize))
+    } else {
+        None
+    }
 }
 
 // Of a change its author and what became of it.

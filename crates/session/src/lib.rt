@@ -162,7 +162,12 @@ fn serve(
         return codec::write(Answer::Refused(2, 0), answer);
     }
     match call {
-        Call::Show { way, width, row, count } => {
+        Call::Show {
+            way,
+            width,
+            row,
+            count,
+        } => {
             let rows = Rows {
                 way,
                 width,
@@ -186,11 +191,23 @@ fn act(cells: &mut [u32], pieces: &mut [u32], call: Call, letters: &[u8]) -> Ans
     ensures { λ r. ⌜ Acted (now (cells .entry)) (now (pieces .entry)) (meaning call (now (letters .entry))) (now (cells .exit)) (now (pieces .exit)) (told r) ⌝ }
 {
     match call {
-        Call::Put { author, place, style } => put(cells, pieces, author, place, style, letters),
-        Call::Strike { author, place, count } => deciding::strike(cells, pieces, author, place, count),
+        Call::Put {
+            author,
+            place,
+            style,
+        } => put(cells, pieces, author, place, style, letters),
+        Call::Strike {
+            author,
+            place,
+            count,
+        } => deciding::strike(cells, pieces, author, place, count),
         Call::Accept { change } => deciding::decide(cells, pieces, change, Verdict::Accepted),
         Call::Reject { change } => deciding::decide(cells, pieces, change, Verdict::Rejected),
-        Call::Style { place, count, style } => deciding::style(cells, pieces, place, count, style),
+        Call::Style {
+            place,
+            count,
+            style,
+        } => deciding::style(cells, pieces, place, count, style),
         Call::Count { way } => count(cells, pieces, way),
         Call::Change { change } => deciding::ask(cells, pieces, change),
         Call::Show { .. } => unreachable(),

@@ -202,7 +202,15 @@ pub struct Places {
 }
 
 // Sweeps `n` cells of piece `k`, from its cell `o` on. Returns how many of them are left.
-fn sweep_piece(c: &mut [u32], w: &mut [u32], at: Places, k: usize, o: usize, n: usize, action: Action) -> usize
+fn sweep_piece(
+    c: &mut [u32],
+    w: &mut [u32],
+    at: Places,
+    k: usize,
+    o: usize,
+    n: usize,
+    action: Action,
+) -> usize
     requires store { ⌜ Store (now c) (drop (at .tables) (now w)) (at .slots) ⌝ }
     requires here { ⌜ k < at .slots ⌝ }
     requires within { ⌜ o + n ≤ used (drop (at .tables) (now w)) k ⌝ }
@@ -216,7 +224,17 @@ fn sweep_piece(c: &mut [u32], w: &mut [u32], at: Places, k: usize, o: usize, n: 
     ensures head { λ _. ⌜ take (at .tables) (now (w .exit)) ≡ take (at .tables) (now (w .entry)) ⌝ }
 {
     let tables = at.tables;
-    let left = sweep_slot(c, &w[tables..], at.slots, k, o, n, action, &w[HEAD..], at.row);
+    let left = sweep_slot(
+        c,
+        &w[tables..],
+        at.slots,
+        k,
+        o,
+        n,
+        action,
+        &w[HEAD..],
+        at.row,
+    );
     let has = pieces::used(&w[tables..], k) - n + left;
     pieces::resize(&mut w[tables..], k, has);
     left

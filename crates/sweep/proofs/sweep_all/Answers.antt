@@ -41,8 +41,7 @@ loop-k-again c =
     let row : changes-of (drop 16 (c .loop-k .w)) (c .args .at .row) ≡ cs = row-kept (c .loop-k .w) (c .args .w .now) t (c .args .at .row) (c .pre .row) (inv .4) in
     let h = rw row at (c .sweep-piece .ensures .changed) in
     let is : c .used-has .result ≡ used q k = simp take-rest at (c .used-has .ensures) in
-    let here : k < s = c .loop-k-test .taken in
-    (
+    let here : k < s = c .loop-k-test .taken in (
       c .sweep-piece .ensures .store,
       frame-both (c .args .c .now) p (c .loop-k .c) q (c .sweep-piece .last .c) r s (inv .1) (h .frame),
       below-more (λ j. piece (c .sweep-piece .last .c) r j ≡ swept a cs (piece (c .args .c .now) p j)) k
@@ -62,7 +61,7 @@ returns c =
         store = inv .0;
         frame = inv .1;
         text = strung-swept (c .args .action) (changes-of (drop 16 (c .args .w .now)) (c .args .at .row)) (piece (c .args .c .now) p) (piece (c .loop-k .c) (drop (c .args .at .tables) (c .loop-k .w))) 0 (c .args .at .slots)
-            (λ i l. simp zero-add (inv .2 i (omega arith)))
+            (λ i l. simp zero-add (inv .2 i (omega arith)));
       };
-      head = inv .4
+      head = inv .4;
     }

@@ -24,7 +24,7 @@ judge-requires c κs =
     record {
       there = omega (arith, same .0, c .in-Some .ensures tt .0);
       few = c .sweep-all .ensures .held .changes-fit;
-      long = omega (arith, c .sweep-all .ensures .held .pieces-long)
+      long = omega (arith, c .sweep-all .ensures .held .pieces-long);
     }
 
 pub returns : need.returns
@@ -37,8 +37,8 @@ returns c =
     let bec : c .became-of .result ≡ verdict-became v = c .became-of .ensures in
     let marked : c .touched-marked .result ≡ touched (paper-of cs ps .cells) k = c .touched-marked .ensures in
     let wrote : Wrote cs ps (c .sweep-all .last .cells) (c .sweep-all .last .pieces) (with-cells (paper-of cs ps) (swept (verdict-action v k) (row-of ps) (paper-of cs ps .cells))) =
-        rw act at (c .sweep-all .ensures) in
+    rw act at (c .sweep-all .ensures) in
     let note : Rowed (c .sweep-all .last .pieces) (c .judge .last .pieces) (with-became (row-of (c .sweep-all .last .pieces)) k (verdict-became v)) = rw bec at (c .judge .ensures) in
     rw marked
     (decided cs ps (c .pre) k v (change-of (c .in-Some .found)) (c .sweep-all .last .cells) (c .sweep-all .last .pieces) (c .judge .last .pieces) (c .in-Some .ensures tt .0)
-        (c .in-Some .ensures tt .1) (c .if-found-ne0 .left) wrote note)
+    (c .in-Some .ensures tt .1) (c .if-found-ne0 .left) wrote note)

@@ -37,7 +37,7 @@ sweep-run-requires c κs =
     record {
       held = c .pre .held;
       within = omega (arith, c .in-Some .ensures tt .0, c .count-cells-total .ensures);
-      mark = omega (arith, c .in-Some-room .ensures tt .0, c .pre .held .few-changes)
+      mark = omega (arith, c .in-Some-room .ensures tt .0, c .pre .held .few-changes);
     }
 
 pub add-change-requires : need.add-change-requires
@@ -59,5 +59,5 @@ returns c =
     let h : leb (i + n) (before (tables ps) (slots-of ps)) ≡ true = rw (c .count-cells-total .ensures) at (c .in-Some .ensures tt .1) in
     let k : allows ps (before (tables ps) (slots-of ps)) ≡ true = rw (c .count-cells-total .ensures) at (c .in-Some-room .ensures tt .1) in
     let wrote : Wrote cs ps (c .sweep-run .last .cells) (c .sweep-run .last .pieces) (with-cells (paper-of cs ps) (swept-run (Strike (c .args .author) (getD ps 3 0)) (row-of ps) (paper-of cs ps .cells) i n)) =
-        rw (at, number) at (c .sweep-run .ensures) in
+    rw (at, number) at (c .sweep-run .ensures) in
     rw number (strike-done cs ps (c .pre .held) (c .args .author) i n (c .pre .good) (c .sweep-run .last .cells) (c .sweep-run .last .pieces) (c .add-change .last .pieces) h k wrote (c .add-change .ensures))

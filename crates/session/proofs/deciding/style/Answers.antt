@@ -33,5 +33,5 @@ returns c =
     let at : c .in-Some .at ≡ i = c .in-Some .ensures tt .0 in
     let h : leb (i + n) (before (tables ps) (slots-of ps)) ≡ true = rw (c .count-cells-total .ensures) at (c .in-Some .ensures tt .1) in
     let wrote : Wrote cs ps (c .sweep-run .last .cells) (c .sweep-run .last .pieces) (with-cells (paper-of cs ps) (swept-run (Style (c .args .style)) (row-of ps) (paper-of cs ps .cells) i n)) =
-        rw at at (c .sweep-run .ensures) in
+    rw at at (c .sweep-run .ensures) in
     style-done cs ps (c .pre .held) i n (c .args .style) (c .pre .good) (c .sweep-run .last .cells) (c .sweep-run .last .pieces) h wrote
