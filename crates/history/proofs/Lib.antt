@@ -1,1 +1,3 @@
 pub mod Undoing
+pub mod Stepping
+pub mod Logging

@@ -1,11 +1,36 @@
 // What can be undone and done again: not whole papers, but an entry for each call that wrote, and what holds of entries (specs/).
 ghost use Rattle.history.specs.Entry.{Undo-brings-back, Redo-does-again, Counts-as-much};
+ghost use Rattle.history.specs.Steps.{Kept-remembered, Kept-within, Kept-all, Kept-forgets, Opens, Write-steps, Undo-steps, Redo-steps, Undo-turned, Redo-turned, Turned-keeps, Looking-keeps};
 
 // An entry brings back the paper before its call, does the call again, and counts one and the cells that the call was about.
 pub fn undo_brings_back() -> u8
     ensures undo { λ _. ⌜ Undo-brings-back ⌝ }
     ensures redo { λ _. ⌜ Redo-does-again ⌝ }
     ensures counts { λ _. ⌜ Counts-as-much ⌝ }
+{
+    0
+}
+
+// What is kept of the entries is what the desk remembers: the oldest are forgotten until the rest counts no more than the limit.
+pub fn kept_is_remembered() -> u8
+    ensures same { λ _. ⌜ Kept-remembered ⌝ }
+    ensures within { λ _. ⌜ Kept-within ⌝ }
+    ensures all { λ _. ⌜ Kept-all ⌝ }
+    ensures forgets { λ _. ⌜ Kept-forgets ⌝ }
+{
+    0
+}
+
+// A paper and its entries stand for a desk, from the empty one on, over every call.
+pub fn entries_stand() -> u8
+    ensures opens { λ _. ⌜ Opens ⌝ }
+    ensures write { λ _. ⌜ Write-steps ⌝ }
+    ensures undo { λ _. ⌜ Undo-steps ⌝ }
+    ensures redo { λ _. ⌜ Redo-steps ⌝ }
+    ensures nothing_behind { λ _. ⌜ Undo-turned ⌝ }
+    ensures nothing_ahead { λ _. ⌜ Redo-turned ⌝ }
+    ensures turned { λ _. ⌜ Turned-keeps ⌝ }
+    ensures looking { λ _. ⌜ Looking-keeps ⌝ }
 {
     0
 }
