@@ -6,7 +6,10 @@ use native.Mathlib.Omega.{arith}
 use lib.Dec.{eqb}
 use lib.ListN.{length, getD, take, drop}
 use Rattle.std.specs.Holes.{between}
-use Rattle.std.proofs.shelf.Lists.{append-assoc, append-nil, length-append, length-take-le, length-drop, take-append-drop, take-at, drop-at, take-take, drop-drop, getD-take, getD-drop, length-push, getD-append-right, getD-append-left, getD-append-add}
+use Rattle.std.proofs.shelf.Lists.{append-assoc, append-nil, length-append, length-take-le, length-drop, take-append-drop, take-at, drop-at, take-take, drop-drop, getD-take, getD-drop, length-push, getD-append-right, getD-append-left, getD-append-add, getD-push}
+use Rattle.std.proofs.shelf.Edits.{length-between, getD-between, between-none}
+use lib.Seq.{take-add}
+use Rattle.std.proofs.shelf.Parts.{between-is}
 use Rattle.model.specs.Paper.{pick, Cell, cells-written}
 use Rattle.history.specs.Entry.{Mark, Entry, was-put, was-struck, was-accepted, was-rejected, was-styled, much, counts}
 use Rattle.history.specs.Steps.{all-count}
@@ -15,6 +18,7 @@ use Rattle.history.specs.Words.{marks-written, head-words, payload, size, entr
 less-one : (n : ℕ) → suc n - 1 ≡ n
 less-one n = omega arith
 
+-- what is read from the payload, whatever comes after it
 cells-read-back : (xs : List Cell) (rest : List ℕ) → cells-read (length xs) (cells-written xs ++ rest) ≡ xs
 unfolding cells-read cells-written
 cells-read-back [] rest = refl
@@ -25,13 +29,208 @@ unfolding marks-read marks-written
 marks-read-back [] rest = refl
 marks-read-back (m ∷ ms) rest = ap (λ ns. m ∷ ns) (marks-read-back ms rest)
 
+cells-there : (xs : List Cell) (tail rest : List ℕ) → cells-read (suc (length xs) - 1) ((cells-written xs ++ tail) ++ rest) ≡ xs
+cells-there xs tail rest = rw (less-one (length xs), append-assoc (cells-written xs) tail rest) (cells-read-back xs (tail ++ rest))
+
+marks-there : (ms : List Mark) (tail rest : List ℕ) → marks-read (suc (length ms) - 1) ((marks-written ms ++ tail) ++ rest) ≡ ms
+marks-there ms tail rest = rw (less-one (length ms), append-assoc (marks-written ms) tail rest) (marks-read-back ms (tail ++ rest))
+
+letters-there : (ls tail rest : List ℕ) → take (suc (length ls) - 1) ((ls ++ tail) ++ rest) ≡ ls
+letters-there ls tail rest = rw (less-one (length ls), append-assoc ls tail rest) (take-at ls (tail ++ rest) (length ls) refl)
+
 pub reads-back : Reads-back
 unfolding entry-words head-words payload read-entry much
-reads-back (was-put a i s ls) rest =
-    let e : take (suc (length ls) - 1) ((ls ++ (size (was-put a i s ls) ∷ [])) ++ rest) ≡ ls =
-        rw (less-one (length ls), append-assoc ls) (take-at ls _ (length ls) refl) in
-    ap (was-put a i s) e
-reads-back (was-struck a i k old) rest = ?
-reads-back (was-accepted c ms) rest = ?
-reads-back (was-rejected c ms) rest = ?
-reads-back (was-styled i s old) rest = ?
+reads-back (was-put a i s ls) rest = ap (was-put a i s) (letters-there ls _ rest)
+reads-back (was-struck a i k old) rest = ap (was-struck a i k) (cells-there old _ rest)
+reads-back (was-accepted c ms) rest = ap (was-accepted c) (marks-there ms _ rest)
+reads-back (was-rejected c ms) rest = ap (was-rejected c) (marks-there ms _ rest)
+reads-back (was-styled i s old) rest = ap (was-styled i s) (cells-there old _ rest)
+
+pub one-entry : One-entry
+one-entry e f h = sym (reads-back e []) ∙ ap (λ ws. read-entry (ws ++ [])) h ∙ reads-back f []
+
+-- Lengths.
+length-cells-written : (xs : List Cell) → length (cells-written xs) ≡ 4 * length xs
+unfolding cells-written
+length-cells-written [] = refl
+length-cells-written (x ∷ xs) = omega (arith, length-cells-written xs)
+
+length-marks-written : (ms : List Mark) → length (marks-written ms) ≡ 5 * length ms
+unfolding marks-written
+length-marks-written [] = refl
+length-marks-written (m ∷ ms) = omega (arith, length-marks-written ms)
+
+pub length-payload : (e : Entry) → length (payload e) ≤ 5 * much e
+unfolding payload much
+length-payload (was-put a i s ls) = omega arith
+length-payload (was-struck a i k old) = omega (arith, length-cells-written old)
+length-payload (was-accepted c ms) = omega (arith, length-marks-written ms)
+length-payload (was-rejected c ms) = omega (arith, length-marks-written ms)
+length-payload (was-styled i s old) = omega (arith, length-cells-written old)
+
+length-head : (e : Entry) → length (head-words e) ≡ 5
+unfolding head-words
+length-head (was-put a i s ls) = refl
+length-head (was-struck a i k old) = refl
+length-head (was-accepted c ms) = refl
+length-head (was-rejected c ms) = refl
+length-head (was-styled i s old) = refl
+
+pub length-entry : (e : Entry) → length (entry-words e) ≡ size e
+unfolding entry-words
+length-entry e = simp (length-append, length-head e) (omega arith)
+
+pub entry-long : Entry-long
+entry-long e = (length-entry e, omega (arith, length-payload e))
+
+-- the first, the second and the last word of an entry
+entry-first : (e : Entry) → getD (entry-words e) 0 0 ≡ size e
+unfolding entry-words
+entry-first e = refl
+
+entry-second : (e : Entry) → getD (entry-words e) 1 0 ≡ counts e
+unfolding entry-words
+entry-second e = refl
+
+entry-last : (e : Entry) → getD (entry-words e) (size e - 1) 0 ≡ size e
+unfolding entry-words
+entry-last e =
+    let front : List ℕ = size e ∷ (counts e ∷ (head-words e ++ payload e)) in
+    let n : length front ≡ size e - 1 = simp (length-append, length-head e) (omega arith) in
+    let same : entry-words e ≡ front ++ (size e ∷ []) = ap (λ ws. size e ∷ (counts e ∷ ws)) (sym (append-assoc (head-words e) (payload e) (size e ∷ []))) in
+    ap (λ ws. getD ws (size e - 1) 0) same ∙ getD-push front (size e) 0 (size e - 1) n
+
+-- Parts of a list of words, from one place to another.
+between-join : (ws : List ℕ) (i j k : ℕ) → i ≤ j → j ≤ k → between i k ws ≡ between i j ws ++ between j k ws
+between-join ws i j k a b =
+    let n : k - i ≡ (j - i) + (k - j) = omega arith in
+    let m : i + (j - i) ≡ j = omega arith in
+    ap (λ x. take x (drop i ws)) n ∙ take-add (j - i) (k - j) (drop i ws)
+        ∙ ap (λ ys. between i j ws ++ take (k - j) ys) (drop-drop (j - i) i ws ∙ ap (λ x. drop x ws) m)
+
+-- a part that is one list after another falls into these two
+record Falls (ws : List ℕ) (i j k : ℕ) (xs ys : List ℕ) : Type 0 where
+  first : between i j ws ≡ xs
+  second : between j k ws ≡ ys
+  reach : j ≤ k
+
+falls : (ws : List ℕ) (i j k : ℕ) (xs ys : List ℕ) → i ≤ k → k ≤ length ws → between i k ws ≡ xs ++ ys → j ≡ i + length xs → Falls ws i j k xs ys
+falls ws i j k xs ys a b h e =
+    let all : length xs + length ys ≡ k - i = sym (length-append xs ys) ∙ ap length (sym h) ∙ length-between ws i k b in
+    let ij : i ≤ j = omega arith in
+    let jk : j ≤ k = omega arith in
+    let n : length (between i j ws) ≡ length xs = length-between ws i j (omega arith) ∙ omega arith in
+    let joined : between i j ws ++ between j k ws ≡ xs ++ ys = sym (between-join ws i j k ij jk) ∙ h in
+    record {
+        first = sym (take-at (between i j ws) (between j k ws) (length xs) n) ∙ ap (take (length xs)) joined ∙ take-at xs ys (length xs) refl;
+        second = sym (drop-at (between i j ws) (between j k ws) (length xs) n) ∙ ap (drop (length xs)) joined ∙ drop-at xs ys (length xs) refl;
+        reach = jk }
+
+-- an entry that stands in the words from a on
+record There (ws : List ℕ) (a : ℕ) (e : Entry) : Type 0 where
+  first : getD ws a 0 ≡ size e
+  second : getD ws (a + 1) 0 ≡ counts e
+  last : getD ws (a + size e - 1) 0 ≡ size e
+  reads : read-entry (drop a ws) ≡ e
+
+there : (ws : List ℕ) (a : ℕ) (e : Entry) → between a (a + size e) ws ≡ entry-words e → There ws a e
+there ws a e h =
+    let at : (k : ℕ) → k < size e → getD ws (a + k) 0 ≡ getD (entry-words e) k 0 =
+        λ k b. sym (getD-between ws a (a + size e) k 0 (omega arith)) ∙ ap (λ xs. getD xs k 0) h in
+    let z : a ≡ a + 0 = omega arith in
+    let y : a + size e - 1 ≡ a + (size e - 1) = omega arith in
+    let n : size e ≡ a + size e - a = omega arith in
+    let split : drop a ws ≡ entry-words e ++ drop (size e) (drop a ws) =
+        sym (take-append-drop (size e) (drop a ws)) ∙ ap (λ xs. xs ++ drop (size e) (drop a ws)) (ap (λ x. take x (drop a ws)) n ∙ h) in
+    record {
+        first = ap (λ x. getD ws x 0) z ∙ at 0 (omega arith) ∙ entry-first e;
+        second = at 1 (omega arith) ∙ entry-second e;
+        last = ap (λ x. getD ws x 0) y ∙ at (size e - 1) (omega arith) ∙ entry-last e;
+        reads = ap read-entry split ∙ reads-back e _ }
+
+-- The steps of a log.
+pub log-back : Log-back
+unfolding back-words ahead-words
+log-back ws s c t e back ahead h =
+    let j : ℕ = c - size e in
+    let all : length (back-words back) + length (entry-words e) ≡ c - s =
+        sym (length-append (back-words back) (entry-words e)) ∙ ap length (sym (h .behind)) ∙ length-between ws s c (omega arith) in
+    let le : length (entry-words e) ≡ size e = length-entry e in
+    let f : Falls ws s j c (back-words back) (entry-words e) = falls ws s j c (back-words back) (entry-words e) (h .begun) (omega arith) (h .behind) (omega arith) in
+    let back-at : j + size e ≡ c = omega arith in
+    let th : There ws j e = there ws j e (ap (λ x. between j x ws) back-at ∙ f .second) in
+    let before : between j t ws ≡ entry-words e ++ ahead-words ahead =
+        between-join ws j c t (f .reach) (h .ended) ∙ ap (λ xs. xs ++ between c t ws) (f .second) ∙ ap (λ xs. entry-words e ++ xs) (h .before) in
+    (ap (λ x. getD ws (x - 1) 0) (sym back-at) ∙ th .last, omega arith, th .reads,
+        record { behind = f .first; before = before; begun = omega arith; ended = omega arith; inside = h .inside })
+
+pub log-ahead : Log-ahead
+unfolding back-words ahead-words
+log-ahead ws s c t e back ahead h =
+    let j : ℕ = c + size e in
+    let le : length (entry-words e) ≡ size e = length-entry e in
+    let f : Falls ws c j t (entry-words e) (ahead-words ahead) = falls ws c j t (entry-words e) (ahead-words ahead) (h .ended) (h .inside) (h .before) (omega arith) in
+    let th : There ws c e = there ws c e (f .first) in
+    let behind : between s j ws ≡ back-words back ++ entry-words e =
+        between-join ws s c j (h .begun) (omega arith) ∙ ap (λ xs. xs ++ between c j ws) (h .behind) ∙ ap (λ xs. back-words back ++ xs) (f .first) in
+    (th .first, f .reach, th .reads, record { behind = behind; before = f .second; begun = omega arith; ended = f .reach; inside = h .inside })
+
+-- the oldest entry's words come first
+oldest-first : (back : List Entry) (e : Entry) → back-words (back ++ (e ∷ [])) ≡ entry-words e ++ back-words back
+unfolding back-words
+oldest-first [] e = sym (append-nil (entry-words e))
+oldest-first (x ∷ back) e = ap (λ ws. ws ++ entry-words x) (oldest-first back e) ∙ append-assoc (entry-words e) (back-words back) (entry-words x)
+
+pub log-forgets : Log-forgets
+log-forgets ws s c t e back ahead h =
+    let j : ℕ = s + size e in
+    let le : length (entry-words e) ≡ size e = length-entry e in
+    let f : Falls ws s j c (entry-words e) (back-words back) =
+        falls ws s j c (entry-words e) (back-words back) (h .begun) (omega arith) (h .behind ∙ oldest-first back e) (omega arith) in
+    let th : There ws s e = there ws s e (f .first) in
+    (th .first, th .second, f .reach, record { behind = f .second; before = h .before; begun = f .reach; ended = h .ended; inside = h .inside })
+
+pub log-drops : Log-drops
+unfolding ahead-words
+log-drops ws s c t back ahead h = record { behind = h .behind; before = between-none ws c; begun = h .begun; ended = omega arith; inside = omega arith }
+
+pub log-pushes : Log-pushes
+unfolding back-words ahead-words
+log-pushes ws new s c e back h same words room =
+    let j : ℕ = c + size e in
+    let old : between s c new ≡ back-words back = between-is new s c ∙ ap (drop s) same ∙ sym (between-is ws s c) ∙ h .behind in
+    let behind : between s j new ≡ back-words back ++ entry-words e =
+        between-join new s c j (h .begun) (omega arith) ∙ ap (λ xs. xs ++ between c j new) old ∙ ap (λ xs. back-words back ++ xs) words in
+    record { behind = behind; before = between-none new j; begun = omega arith; ended = omega arith; inside = room }
+
+pub log-moves : Log-moves
+log-moves ws new s c t back ahead h same room =
+    let whole : between 0 (t - s) new ≡ back-words back ++ ahead-words ahead =
+        same ∙ between-join ws s c t (h .begun) (h .ended) ∙ ap (λ xs. xs ++ between c t ws) (h .behind) ∙ ap (λ xs. back-words back ++ xs) (h .before) in
+    let n : length (back-words back) ≡ c - s = ap length (sym (h .behind)) ∙ length-between ws s c (omega arith) in
+    let f : Falls new 0 (c - s) (t - s) (back-words back) (ahead-words ahead) =
+        falls new 0 (c - s) (t - s) (back-words back) (ahead-words ahead) (omega arith) room whole (omega arith) in
+    record { behind = f .first; before = f .second; begun = omega arith; ended = f .reach; inside = room }
+
+-- how many words entries take
+back-long : (es : List Entry) → (length (back-words es) ≤ 8 * all-count es) × (8 * length es ≤ length (back-words es))
+unfolding back-words all-count
+back-long [] = omega arith
+back-long (e ∷ es) =
+    let ih = back-long es in
+    simp length-append (omega (arith, ih .0, ih .1, length-entry e, length-payload e))
+
+ahead-long : (es : List Entry) → (length (ahead-words es) ≤ 8 * all-count es) × (8 * length es ≤ length (ahead-words es))
+unfolding ahead-words all-count
+ahead-long [] = omega arith
+ahead-long (e ∷ es) =
+    let ih = ahead-long es in
+    simp length-append (omega (arith, ih .0, ih .1, length-entry e, length-payload e))
+
+pub log-long : Log-long
+log-long ws s c t back ahead h =
+    let n : length (back-words back) ≡ c - s = ap length (sym (h .behind)) ∙ length-between ws s c (omega arith) in
+    let m : length (ahead-words ahead) ≡ t - c = ap length (sym (h .before)) ∙ length-between ws c t (h .inside) in
+    let b = back-long back in
+    let a = ahead-long ahead in
+    omega arith
