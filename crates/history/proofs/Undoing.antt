@@ -10,10 +10,10 @@ use lib.Seq.{append-snoc}
 use Rattle.std.proofs.shelf.Tests.{or-parts}
 use lib.Dec.{eqb}
 use lib.ListN.{length, getD, set, take, drop}
-use Rattle.std.proofs.shelf.Lists.{append-assoc, append-nil, length-append, length-take, length-take-le, length-drop, take-append-drop, take-at, drop-at, take-append-le, drop-drop, set-at, set-set, set-getD, getD-default, length-push, getD-set-same}
+use Rattle.std.proofs.shelf.Lists.{append-assoc, append-nil, length-append, length-take, length-take-le, length-drop, take-append-drop, take-at, drop-at, take-append-le, drop-drop, set-at, set-set, set-getD, getD-default, length-push, length-set, getD-set-same}
 use Rattle.model.specs.Paper.{pick, Cell, Change, Paper, new-cells, strike, accept, reject, styled, author-of, touched}
 use Rattle.model.specs.Calls.{Call, put, strikes, accepts, rejects, styles, undo, redo, show, find, count, change, save, became, with-became, rewritten, how-much}
-use Rattle.history.specs.Entry.{Mark, Entry, was-put, was-struck, was-accepted, was-rejected, was-styled, staying, marks, entry-of, call-of, much, counts, run-back, mark-back, marks-back, goes-accepted, goes-rejected, but-last, undo-of, redo-of, Can, Undo-brings-back, Redo-does-again, Counts-as-much}
+use Rattle.history.specs.Entry.{Mark, Entry, was-put, was-struck, was-accepted, was-rejected, was-styled, staying, marks, entry-of, call-of, much, counts, run-back, mark-back, marks-back, goes-accepted, goes-rejected, but-last, undo-of, redo-of, Can, Placed, Undo-can, Undo-brings-back, Redo-does-again, Counts-as-much, Undo-finds}
 
 -- two papers with the same cells and the same changes
 pub same-paper : (p q : Paper) → p .cells ≡ q .cells → p .changes ≡ q .changes → p ≡ q
@@ -194,3 +194,112 @@ much-of-entry p (save i n) h = absurd h
 
 pub counts-as-much : Counts-as-much
 counts-as-much p c h = ap suc (much-of-entry p c h)
+
+-- Each mark has its place when its turn comes.
+module _ (went : Cell → Bool) (x y : Cell) (ys zs : List Cell) (i : ℕ) (ms : List Mark) where
+  placed-at : (a b : ℕ) → a ≡ b → Placed went ms a → Placed went ms b
+  placed-at a b e h = subst (Placed went ms) e h
+
+  placed-one : (w : Bool) → zs ≡ pick w ys (y ∷ ys) → Placed went ms (suc i + length ys) →
+      (i + pick {A = ℕ} w 0 1 ≤ i + length zs) × Placed went ms (i + length zs + pick {A = ℕ} w 1 0)
+  placed-one true e ih = let n : length zs ≡ length ys = ap length e in (omega arith, placed-at _ _ (omega arith) ih)
+  placed-one false e ih = let n : length zs ≡ suc (length ys) = ap length e in (omega arith, placed-at _ _ (omega arith) ih)
+
+  placed-step : (t : Bool) → zs ≡ pick (went x) ys (y ∷ ys) → (t ≡ false → zs ≡ x ∷ ys) → Placed went ms (suc i + length ys) →
+      Placed went (pick t (record { place = i; cell = x } ∷ ms) ms) (i + length zs)
+  unfolding Placed
+  placed-step true f g ih = placed-one (went x) f ih
+  placed-step false f g ih = let n : length zs ≡ suc (length ys) = ap length (g refl) in placed-at _ _ (omega arith) ih
+
+placed-accept : (xs : List Cell) (c i : ℕ) → Placed (goes-accepted c) (marks xs c i) (i + length (accept xs c))
+unfolding accept marks Placed
+placed-accept [] c i = tt
+placed-accept (x ∷ xs) c i =
+    placed-step (goes-accepted c) x _ (accept xs c) _ i (marks xs c (suc i)) (eqb (x .put-in) (suc c) || eqb (x .struck) (suc c)) refl
+        (λ t. let o = or-parts (eqb (x .put-in) (suc c)) (eqb (x .struck) (suc c)) t in rw (o .0, o .1)) (placed-accept xs c (suc i))
+
+placed-reject : (xs : List Cell) (c i : ℕ) → Placed (goes-rejected c) (marks xs c i) (i + length (reject xs c))
+unfolding reject marks Placed
+placed-reject [] c i = tt
+placed-reject (x ∷ xs) c i =
+    placed-step (goes-rejected c) x _ (reject xs c) _ i (marks xs c (suc i)) (eqb (x .put-in) (suc c) || eqb (x .struck) (suc c)) refl
+        (λ t. let o = or-parts (eqb (x .put-in) (suc c)) (eqb (x .struck) (suc c)) t in rw (o .0, o .1)) (placed-reject xs c (suc i))
+
+-- as many stay as are there
+length-strike : (xs : List Cell) (n : ℕ) (cs : List Change) (a c : ℕ) → staying (take n xs) cs a ≤ length (strike xs n cs a c)
+unfolding strike staying
+length-strike [] zero cs a c = omega arith
+length-strike [] (suc n) cs a c = omega arith
+length-strike (x ∷ xs) zero cs a c = omega arith
+length-strike (x ∷ xs) (suc n) cs a c =
+    let k : ℕ = staying (take n xs) cs a in
+    let ys : List Cell = strike xs n cs a c in
+    let ih : k ≤ length ys = length-strike xs n cs a c in
+    let y : Cell = record { letter = x .letter; style = x .style; put-in = x .put-in; struck = pick (eqb (x .struck) 0) (suc c) (x .struck) } in
+    elim (eqb (author-of cs (x .put-in)) (suc a)) as (λ b. pick {A = ℕ} b 0 1 + k ≤ length (pick b ys (y ∷ ys))) [ true ↦ omega arith | false ↦ omega arith ]
+
+length-styled : (xs : List Cell) (n s : ℕ) → length (styled xs n s) ≡ length xs
+unfolding styled
+length-styled [] n s = refl
+length-styled (x ∷ xs) zero s = refl
+length-styled (x ∷ xs) (suc n) s = ap suc (length-styled xs n s)
+
+-- i cells and then these
+length-front : (xs ys : List Cell) (i : ℕ) → i ≤ length xs → length (take i xs ++ ys) ≡ i + length ys
+length-front xs ys i h = length-append (take i xs) ys ∙ ap (λ n. n + length ys) (length-take-le i xs h)
+
+pub undo-finds : Undo-finds
+unfolding entry-of rewritten Can Undo-can
+undo-finds p (put a i s ls) h =
+    let new : List Cell = new-cells ls s (length (p .changes)) in
+    let n = length-front (p .cells) (new ++ drop i (p .cells)) i h in
+    let m = length-append new (drop i (p .cells)) in
+    let k = length-new ls s (length (p .changes)) in
+    (omega arith, omega (arith, length-push (p .changes) (record { author = a; became = 0 })))
+undo-finds p (strikes a i n) h =
+    let ys : List Cell = strike (drop i (p .cells)) n (p .changes) a (length (p .changes)) in
+    let m = length-front (p .cells) ys i (omega arith) in
+    let k = length-strike (drop i (p .cells)) n (p .changes) a (length (p .changes)) in
+    (omega arith, omega (arith, length-push (p .changes) (record { author = a; became = 0 })))
+undo-finds p (accepts c) h = (subst (Placed (goes-accepted c) (marks (p .cells) c 0)) (zero-add _) (placed-accept (p .cells) c 0), simp length-set (h .0))
+undo-finds p (rejects c) h = (subst (Placed (goes-rejected c) (marks (p .cells) c 0)) (zero-add _) (placed-reject (p .cells) c 0), simp length-set (h .0))
+undo-finds p (styles i n s) h =
+    let ys : List Cell = styled (drop i (p .cells)) n s in
+    let m = length-front (p .cells) ys i (omega arith) in
+    let k = length-styled (drop i (p .cells)) n s in
+    let j = length-drop i (p .cells) in
+    let o = length-old (p .cells) i n h in
+    omega arith
+undo-finds p undo h = absurd h
+undo-finds p redo h = absurd h
+undo-finds p (show k w r n) h = absurd h
+undo-finds p (find k i ls) h = absurd h
+undo-finds p (count k) h = absurd h
+undo-finds p (change c) h = absurd h
+undo-finds p (save i n) h = absurd h
+
+-- What code needs that does it step by step. A run that comes back: the cells that stand there are removed, and the old ones put in.
+pub run-back-edits : (i k : ℕ) (old xs : List Cell) → i ≤ length xs →
+    run-back i k old xs ≡ take i (take i xs ++ drop (i + k) xs) ++ (old ++ drop i (take i xs ++ drop (i + k) xs))
+unfolding run-back
+run-back-edits i k old xs h =
+    let t : take i (take i xs ++ drop (i + k) xs) ≡ take i xs = take-at (take i xs) (drop (i + k) xs) i (length-take-le i xs h) in
+    let d : drop i (take i xs ++ drop (i + k) xs) ≡ drop (i + k) xs = drop-at (take i xs) (drop (i + k) xs) i (length-take-le i xs h) in
+    cc
+
+-- one mark adds a cell if it went, and marks never take one away
+pub length-mark-back : (w : Bool) (m : Mark) (xs : List Cell) → m .place + pick {A = ℕ} w 0 1 ≤ length xs →
+    length (mark-back w m xs) ≡ length xs + pick {A = ℕ} w 1 0
+length-mark-back true m xs h =
+    let n = length-front xs (m .cell ∷ drop (m .place) xs) (m .place) (omega arith) in
+    let k = length-drop (m .place) xs in
+    omega arith
+length-mark-back false m xs h = length-set xs (m .place) (m .cell) ∙ omega arith
+
+pub length-marks-back : (went : Cell → Bool) (ms : List Mark) (xs : List Cell) → Placed went ms (length xs) → length xs ≤ length (marks-back went ms xs)
+unfolding marks-back Placed
+length-marks-back went [] xs h = omega arith
+length-marks-back went (m ∷ ms) xs h =
+    let n = length-mark-back (went (m .cell)) m xs (h .0) in
+    let ih = length-marks-back went ms (mark-back (went (m .cell)) m xs) (subst (Placed went ms) (sym n) (h .1)) in
+    omega arith

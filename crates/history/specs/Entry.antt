@@ -120,6 +120,19 @@ Can p (count k) = ⊥
 Can p (change c) = ⊥
 Can p (save i n) = ⊥
 
+-- among n cells each mark has its place when its turn comes
+unfoldable pub Placed : (Cell → Bool) → List Mark → ℕ → Type 0
+Placed went [] n = Unit {0}
+Placed went (m ∷ ms) n = (m .place + pick (went (m .cell)) 0 1 ≤ n) × Placed went ms (n + pick (went (m .cell)) 1 0)
+
+-- what undo finds on the paper after the call: the cells that stand there now, a place for each mark, the change
+unfoldable pub Undo-can : Entry → Paper → Type 0
+Undo-can (was-put a i s ls) p = (i + length ls ≤ length (p .cells)) × (0 < length (p .changes))
+Undo-can (was-struck a i k old) p = (i + k ≤ length (p .cells)) × (0 < length (p .changes))
+Undo-can (was-accepted c ms) p = Placed (goes-accepted c) ms (length (p .cells)) × (c < length (p .changes))
+Undo-can (was-rejected c ms) p = Placed (goes-rejected c) ms (length (p .cells)) × (c < length (p .changes))
+Undo-can (was-styled i s old) p = i + length old ≤ length (p .cells)
+
 -- undo brings back the paper before the call, redo the paper after it, and an entry counts what its call does
 abbrev pub Undo-brings-back : Type 0
 Undo-brings-back = (p : Paper) (c : Call) → Can p c → undo-of (entry-of p c) (rewritten p c) ≡ p
@@ -129,3 +142,7 @@ Redo-does-again = (p : Paper) (c : Call) → Can p c → redo-of (entry-of p c) 
 
 abbrev pub Counts-as-much : Type 0
 Counts-as-much = (p : Paper) (c : Call) → Can p c → counts (entry-of p c) ≡ suc (how-much p c)
+
+-- and undo finds what it needs
+abbrev pub Undo-finds : Type 0
+Undo-finds = (p : Paper) (c : Call) → Can p c → Undo-can (entry-of p c) (rewritten p c)

@@ -1,12 +1,14 @@
 // What can be undone and done again: not whole papers, but an entry for each call that wrote, and what holds of entries (specs/).
-ghost use Rattle.history.specs.Entry.{Undo-brings-back, Redo-does-again, Counts-as-much};
+ghost use Rattle.history.specs.Entry.{Undo-brings-back, Redo-does-again, Counts-as-much, Undo-finds};
 ghost use Rattle.history.specs.Steps.{Kept-remembered, Kept-within, Kept-all, Kept-forgets, Opens, Write-steps, Undo-steps, Redo-steps, Undo-turned, Redo-turned, Turned-keeps, Looking-keeps};
 
 // An entry brings back the paper before its call, does the call again, and counts one and the cells that the call was about.
+// Undo finds the cells and the change that it needs.
 pub fn undo_brings_back() -> u8
     ensures undo { λ _. ⌜ Undo-brings-back ⌝ }
     ensures redo { λ _. ⌜ Redo-does-again ⌝ }
     ensures counts { λ _. ⌜ Counts-as-much ⌝ }
+    ensures finds { λ _. ⌜ Undo-finds ⌝ }
 {
     0
 }
