@@ -13,7 +13,7 @@ use Rattle.std.proofs.shelf.Parts.{between-is}
 use Rattle.model.specs.Paper.{pick, Cell, cells-written}
 use Rattle.history.specs.Entry.{Mark, Entry, was-put, was-struck, was-accepted, was-rejected, was-styled, much, counts}
 use Rattle.history.specs.Steps.{all-count}
-use Rattle.history.specs.Words.{marks-written, head-words, payload, size, entry-words, cells-read, marks-read, read-entry, back-words, ahead-words, Logged, Reads-back, One-entry, Entry-long, Log-long, Log-back, Log-ahead, Log-forgets, Log-drops, Log-pushes, Log-moves}
+use Rattle.history.specs.Words.{marks-written, head-words, payload, size, entry-words, cells-read, marks-read, read-entry, back-words, ahead-words, Logged, Entry-at, Reads-back, One-entry, Entry-long, Log-long, One-log, Log-back, Log-ahead, Log-forgets, Log-drops, Log-pushes, Log-moves}
 
 less-one : (n : ℕ) → suc n - 1 ≡ n
 less-one n = omega arith
@@ -106,7 +106,7 @@ between-join ws i j k a b =
     let n : k - i ≡ (j - i) + (k - j) = omega arith in
     let m : i + (j - i) ≡ j = omega arith in
     ap (λ x. take x (drop i ws)) n ∙ take-add (j - i) (k - j) (drop i ws)
-        ∙ ap (λ ys. between i j ws ++ take (k - j) ys) (drop-drop (j - i) i ws ∙ ap (λ x. drop x ws) m)
+    ∙ ap (λ ys. between i j ws ++ take (k - j) ys) (drop-drop (j - i) i ws ∙ ap (λ x. drop x ws) m)
 
 -- a part that is one list after another falls into these two
 record Falls (ws : List ℕ) (i j k : ℕ) (xs ys : List ℕ) : Type 0 where
@@ -122,31 +122,28 @@ falls ws i j k xs ys a b h e =
     let n : length (between i j ws) ≡ length xs = length-between ws i j (omega arith) ∙ omega arith in
     let joined : between i j ws ++ between j k ws ≡ xs ++ ys = sym (between-join ws i j k ij jk) ∙ h in
     record {
-        first = sym (take-at (between i j ws) (between j k ws) (length xs) n) ∙ ap (take (length xs)) joined ∙ take-at xs ys (length xs) refl;
-        second = sym (drop-at (between i j ws) (between j k ws) (length xs) n) ∙ ap (drop (length xs)) joined ∙ drop-at xs ys (length xs) refl;
-        reach = jk }
+      first = sym (take-at (between i j ws) (between j k ws) (length xs) n) ∙ ap (take (length xs)) joined ∙ take-at xs ys (length xs) refl;
+      second = sym (drop-at (between i j ws) (between j k ws) (length xs) n) ∙ ap (drop (length xs)) joined ∙ drop-at xs ys (length xs) refl;
+      reach = jk;
+    }
 
--- an entry that stands in the words from a on
-record There (ws : List ℕ) (a : ℕ) (e : Entry) : Type 0 where
-  first : getD ws a 0 ≡ size e
-  second : getD ws (a + 1) 0 ≡ counts e
-  last : getD ws (a + size e - 1) 0 ≡ size e
-  reads : read-entry (drop a ws) ≡ e
-
-there : (ws : List ℕ) (a : ℕ) (e : Entry) → between a (a + size e) ws ≡ entry-words e → There ws a e
+-- an entry that stands in words
+there : (ws : List ℕ) (a : ℕ) (e : Entry) → between a (a + size e) ws ≡ entry-words e → Entry-at ws a e
 there ws a e h =
     let at : (k : ℕ) → k < size e → getD ws (a + k) 0 ≡ getD (entry-words e) k 0 =
-        λ k b. sym (getD-between ws a (a + size e) k 0 (omega arith)) ∙ ap (λ xs. getD xs k 0) h in
+    λ k b. sym (getD-between ws a (a + size e) k 0 (omega arith)) ∙ ap (λ xs. getD xs k 0) h in
     let z : a ≡ a + 0 = omega arith in
     let y : a + size e - 1 ≡ a + (size e - 1) = omega arith in
     let n : size e ≡ a + size e - a = omega arith in
     let split : drop a ws ≡ entry-words e ++ drop (size e) (drop a ws) =
-        sym (take-append-drop (size e) (drop a ws)) ∙ ap (λ xs. xs ++ drop (size e) (drop a ws)) (ap (λ x. take x (drop a ws)) n ∙ h) in
+    sym (take-append-drop (size e) (drop a ws)) ∙ ap (λ xs. xs ++ drop (size e) (drop a ws)) (ap (λ x. take x (drop a ws)) n ∙ h) in
     record {
-        first = ap (λ x. getD ws x 0) z ∙ at 0 (omega arith) ∙ entry-first e;
-        second = at 1 (omega arith) ∙ entry-second e;
-        last = ap (λ x. getD ws x 0) y ∙ at (size e - 1) (omega arith) ∙ entry-last e;
-        reads = ap read-entry split ∙ reads-back e _ }
+      words = h;
+      size-word = ap (λ x. getD ws x 0) z ∙ at 0 (omega arith) ∙ entry-first e;
+      count-word = at 1 (omega arith) ∙ entry-second e;
+      last-word = ap (λ x. getD ws x 0) y ∙ at (size e - 1) (omega arith) ∙ entry-last e;
+      reads = ap read-entry split ∙ reads-back e _;
+    }
 
 -- The steps of a log.
 pub log-back : Log-back
@@ -154,15 +151,18 @@ unfolding back-words ahead-words
 log-back ws s c t e back ahead h =
     let j : ℕ = c - size e in
     let all : length (back-words back) + length (entry-words e) ≡ c - s =
-        sym (length-append (back-words back) (entry-words e)) ∙ ap length (sym (h .behind)) ∙ length-between ws s c (omega arith) in
+    sym (length-append (back-words back) (entry-words e)) ∙ ap length (sym (h .behind)) ∙ length-between ws s c (omega arith) in
     let le : length (entry-words e) ≡ size e = length-entry e in
     let f : Falls ws s j c (back-words back) (entry-words e) = falls ws s j c (back-words back) (entry-words e) (h .begun) (omega arith) (h .behind) (omega arith) in
     let back-at : j + size e ≡ c = omega arith in
-    let th : There ws j e = there ws j e (ap (λ x. between j x ws) back-at ∙ f .second) in
+    let th : Entry-at ws j e = there ws j e (ap (λ x. between j x ws) back-at ∙ f .second) in
     let before : between j t ws ≡ entry-words e ++ ahead-words ahead =
-        between-join ws j c t (f .reach) (h .ended) ∙ ap (λ xs. xs ++ between c t ws) (f .second) ∙ ap (λ xs. entry-words e ++ xs) (h .before) in
-    (ap (λ x. getD ws (x - 1) 0) (sym back-at) ∙ th .last, omega arith, th .reads,
-        record { behind = f .first; before = before; begun = omega arith; ended = omega arith; inside = h .inside })
+    between-join ws j c t (f .reach) (h .ended) ∙ ap (λ xs. xs ++ between c t ws) (f .second) ∙ ap (λ xs. entry-words e ++ xs) (h .before) in (
+      ap (λ x. getD ws (x - 1) 0) (sym back-at) ∙ th .last-word,
+      omega arith,
+      th,
+      record { behind = f .first; before = before; begun = omega arith; ended = omega arith; inside = h .inside },
+    )
 
 pub log-ahead : Log-ahead
 unfolding back-words ahead-words
@@ -170,10 +170,10 @@ log-ahead ws s c t e back ahead h =
     let j : ℕ = c + size e in
     let le : length (entry-words e) ≡ size e = length-entry e in
     let f : Falls ws c j t (entry-words e) (ahead-words ahead) = falls ws c j t (entry-words e) (ahead-words ahead) (h .ended) (h .inside) (h .before) (omega arith) in
-    let th : There ws c e = there ws c e (f .first) in
+    let th : Entry-at ws c e = there ws c e (f .first) in
     let behind : between s j ws ≡ back-words back ++ entry-words e =
-        between-join ws s c j (h .begun) (omega arith) ∙ ap (λ xs. xs ++ between c j ws) (h .behind) ∙ ap (λ xs. back-words back ++ xs) (f .first) in
-    (th .first, f .reach, th .reads, record { behind = behind; before = f .second; begun = omega arith; ended = f .reach; inside = h .inside })
+    between-join ws s c j (h .begun) (omega arith) ∙ ap (λ xs. xs ++ between c j ws) (h .behind) ∙ ap (λ xs. back-words back ++ xs) (f .first) in
+    (f .reach, th, record { behind = behind; before = f .second; begun = omega arith; ended = f .reach; inside = h .inside })
 
 -- the oldest entry's words come first
 oldest-first : (back : List Entry) (e : Entry) → back-words (back ++ (e ∷ [])) ≡ entry-words e ++ back-words back
@@ -186,9 +186,9 @@ log-forgets ws s c t e back ahead h =
     let j : ℕ = s + size e in
     let le : length (entry-words e) ≡ size e = length-entry e in
     let f : Falls ws s j c (entry-words e) (back-words back) =
-        falls ws s j c (entry-words e) (back-words back) (h .begun) (omega arith) (h .behind ∙ oldest-first back e) (omega arith) in
-    let th : There ws s e = there ws s e (f .first) in
-    (th .first, th .second, f .reach, record { behind = f .second; before = h .before; begun = f .reach; ended = h .ended; inside = h .inside })
+    falls ws s j c (entry-words e) (back-words back) (h .begun) (omega arith) (h .behind ∙ oldest-first back e) (omega arith) in
+    let th : Entry-at ws s e = there ws s e (f .first) in
+    (f .reach, th, record { behind = f .second; before = h .before; begun = f .reach; ended = h .ended; inside = h .inside })
 
 pub log-drops : Log-drops
 unfolding ahead-words
@@ -200,16 +200,16 @@ log-pushes ws new s c e back h same words room =
     let j : ℕ = c + size e in
     let old : between s c new ≡ back-words back = between-is new s c ∙ ap (drop s) same ∙ sym (between-is ws s c) ∙ h .behind in
     let behind : between s j new ≡ back-words back ++ entry-words e =
-        between-join new s c j (h .begun) (omega arith) ∙ ap (λ xs. xs ++ between c j new) old ∙ ap (λ xs. back-words back ++ xs) words in
+    between-join new s c j (h .begun) (omega arith) ∙ ap (λ xs. xs ++ between c j new) old ∙ ap (λ xs. back-words back ++ xs) words in
     record { behind = behind; before = between-none new j; begun = omega arith; ended = omega arith; inside = room }
 
 pub log-moves : Log-moves
 log-moves ws new s c t back ahead h same room =
     let whole : between 0 (t - s) new ≡ back-words back ++ ahead-words ahead =
-        same ∙ between-join ws s c t (h .begun) (h .ended) ∙ ap (λ xs. xs ++ between c t ws) (h .behind) ∙ ap (λ xs. back-words back ++ xs) (h .before) in
+    same ∙ between-join ws s c t (h .begun) (h .ended) ∙ ap (λ xs. xs ++ between c t ws) (h .behind) ∙ ap (λ xs. back-words back ++ xs) (h .before) in
     let n : length (back-words back) ≡ c - s = ap length (sym (h .behind)) ∙ length-between ws s c (omega arith) in
     let f : Falls new 0 (c - s) (t - s) (back-words back) (ahead-words ahead) =
-        falls new 0 (c - s) (t - s) (back-words back) (ahead-words ahead) (omega arith) room whole (omega arith) in
+    falls new 0 (c - s) (t - s) (back-words back) (ahead-words ahead) (omega arith) room whole (omega arith) in
     record { behind = f .first; before = f .second; begun = omega arith; ended = f .reach; inside = room }
 
 -- how many words entries take
@@ -234,3 +234,46 @@ log-long ws s c t back ahead h =
     let b = back-long back in
     let a = ahead-long ahead in
     omega arith
+
+-- one log, from the words alone
+none-behind : (ws : List ℕ) (s c t : ℕ) (e : Entry) (back ahead ahead′ : List Entry) → Logged ws s c t [] ahead → Logged ws s c t (e ∷ back) ahead′ → ⊥
+unfolding all-count
+none-behind ws s c t e back ahead ahead′ h k =
+    let x = log-long ws s c t [] ahead h in
+    let y = log-long ws s c t (e ∷ back) ahead′ k in
+    omega arith
+
+none-ahead : (ws : List ℕ) (s c t : ℕ) (e : Entry) (back back′ ahead : List Entry) → Logged ws s c t back [] → Logged ws s c t back′ (e ∷ ahead) → ⊥
+unfolding all-count
+none-ahead ws s c t e back back′ ahead h k =
+    let x = log-long ws s c t back [] h in
+    let y = log-long ws s c t back′ (e ∷ ahead) k in
+    omega arith
+
+one-behind : (back back′ ahead ahead′ : List Entry) (ws : List ℕ) (s c t : ℕ) → Logged ws s c t back ahead → Logged ws s c t back′ ahead′ → back ≡ back′
+one-behind [] [] ahead ahead′ ws s c t h k = refl
+one-behind [] (f ∷ back′) ahead ahead′ ws s c t h k = absurd (none-behind ws s c t f back′ ahead ahead′ h k)
+one-behind (e ∷ back) [] ahead ahead′ ws s c t h k = absurd (none-behind ws s c t e back ahead′ ahead k h)
+one-behind (e ∷ back) (f ∷ back′) ahead ahead′ ws s c t h k =
+    let x = log-back ws s c t e back ahead h in
+    let y = log-back ws s c t f back′ ahead′ k in
+    let at : c - size f ≡ c - size e = ap (λ m. c - m) (sym (y .0) ∙ x .0) in
+    let same : e ≡ f = sym (x .2 .reads) ∙ ap (λ m. read-entry (drop m ws)) (sym at) ∙ y .2 .reads in
+    let k′ : Logged ws s (c - size e) t back′ (f ∷ ahead′) = subst (λ m. Logged ws s m t back′ (f ∷ ahead′)) at (y .3) in
+    let ih : back ≡ back′ = one-behind back back′ (e ∷ ahead) (f ∷ ahead′) ws s (c - size e) t (x .3) k′ in
+    cc
+
+one-ahead : (ahead ahead′ back back′ : List Entry) (ws : List ℕ) (s c t : ℕ) → Logged ws s c t back ahead → Logged ws s c t back′ ahead′ → ahead ≡ ahead′
+one-ahead [] [] back back′ ws s c t h k = refl
+one-ahead [] (f ∷ ahead′) back back′ ws s c t h k = absurd (none-ahead ws s c t f back back′ ahead′ h k)
+one-ahead (e ∷ ahead) [] back back′ ws s c t h k = absurd (none-ahead ws s c t e back′ back ahead k h)
+one-ahead (e ∷ ahead) (f ∷ ahead′) back back′ ws s c t h k =
+    let x = log-ahead ws s c t e back ahead h in
+    let y = log-ahead ws s c t f back′ ahead′ k in
+    let same : e ≡ f = sym (x .1 .reads) ∙ y .1 .reads in
+    let k′ : Logged ws s (c + size e) t (f ∷ back′) ahead′ = subst (λ m. Logged ws s (c + m) t (f ∷ back′) ahead′) (sym (y .1 .size-word) ∙ x .1 .size-word) (y .2) in
+    let ih : ahead ≡ ahead′ = one-ahead ahead ahead′ (e ∷ back) (f ∷ back′) ws s (c + size e) t (x .2) k′ in
+    cc
+
+pub one-log : One-log
+one-log ws s c t back ahead back′ ahead′ h k = (one-behind back back′ ahead ahead′ ws s c t h k, one-ahead ahead ahead′ back back′ ws s c t h k)

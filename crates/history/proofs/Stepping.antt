@@ -6,11 +6,11 @@ use Prim.Native.Nat.{ℕ, zero, suc, _+_, _-_, _≤_, _<_}
 use native.Mathlib.Omega.{arith}
 use lib.Dec.{ltb, leb, eqb, eqb·suc-zero, leb·zero}
 use lib.ListN.{length, getD}
-use Rattle.std.proofs.shelf.Tests.{leb-true, leb-false, le-leb, lt-leb, ltb-true, eqb-true, ne-eqb, false≢true}
+use Rattle.std.proofs.shelf.Tests.{leb-true, leb-false, ltb-true, eqb-true, false≢true, and-parts}
 use Rattle.model.specs.Paper.{pick, Paper}
-use Rattle.model.specs.Calls.{Call, put, strikes, accepts, rejects, styles, undo, redo, show, find, count, change, save, number, Before, Desk, Limits, became, call-number, good-fields, good-call, turned-by, writes, rewritten, how-much, remembered, undone, redone, moved, changed, fits, turned, after, told, new-desk}
+use Rattle.model.specs.Calls.{Call, put, strikes, accepts, rejects, styles, undo, redo, show, find, count, change, save, number, Before, Desk, Limits, became, call-number, good-fields, good-call, turned-by, writes, rewritten, how-much, remembered, undone, redone, moved, changed, fits, turned, after, told, ran, new-desk}
 use Rattle.history.specs.Entry.{Entry, was-put, was-struck, was-accepted, was-rejected, was-styled, counts, much, call-of, entry-of, undo-of, redo-of, Can}
-use Rattle.history.specs.Steps.{past-of, future-of, desk-of, all-count, kept, Made, Sane-back, Sane-ahead, Sane, Stands-for, Kept-remembered, Kept-within, Kept-all, Kept-forgets, Opens, Write-steps, Undo-steps, Redo-steps, Undo-turned, Redo-turned, Turned-keeps, Looking-keeps}
+use Rattle.history.specs.Steps.{past-of, future-of, desk-of, all-count, kept, Made, Sane-back, Sane-ahead, Sane, Stands-for, Kept-remembered, Kept-within, Kept-all, Kept-forgets, Opens, Write-steps, Undo-steps, Redo-steps, Undo-turned, Redo-turned, Turned-keeps, Looking-keeps, Always-stands}
 use Rattle.history.proofs.Undoing.{undo-brings-back, much-of-entry, call-of-entry}
 
 -- A test, and what it says, as cases.
@@ -30,7 +30,7 @@ kept-remembered u (e ∷ es) p =
     let b : Before = record { paper = q; much = much e } in
     let ih = kept-remembered (u - counts e) es q in
     elim (leb (counts e) u) as (λ t. past-of (pick t (e ∷ kept (u - counts e) es) []) p ≡ pick t (b ∷ remembered (u - counts e) (past-of es q)) [])
-        [ true ↦ ap (λ bs. b ∷ bs) ih | false ↦ refl ]
+    [ true ↦ ap (λ bs. b ∷ bs) ih | false ↦ refl ]
 
 pub kept-within : Kept-within
 unfolding kept all-count
@@ -51,7 +51,7 @@ unfolding kept all-count
 kept-forgets u [] e h = by-leb (λ t. pick t (e ∷ []) [] ≡ []) (counts e) u (λ k. absurd (omega arith)) (λ k. refl)
 kept-forgets u (x ∷ es) e h =
     by-leb (λ t. pick t (x ∷ kept (u - counts x) (es ++ (e ∷ []))) [] ≡ pick t (x ∷ kept (u - counts x) es) []) (counts x) u
-        (λ k. ap (λ xs. x ∷ xs) (kept-forgets (u - counts x) es e (omega arith))) (λ k. refl)
+    (λ k. ap (λ xs. x ∷ xs) (kept-forgets (u - counts x) es e (omega arith))) (λ k. refl)
 
 kept-sane : (l : Limits) (u : ℕ) (es : List Entry) (p : Paper) → Sane-back l es p → Sane-back l (kept u es) p
 unfolding kept Sane-back
@@ -165,12 +165,13 @@ made-now l d c w t f =
     let p : Paper = d .now in
     let e : call-of (entry-of p c) ≡ c = call-of-entry p c (can-there d c w (n .1)) in
     let alone : turned l (desk-of p [] []) c ≡ 0 =
-        ap (λ k. pick (good-call l c) (pick (eqb k 0) (pick (fits l (rewritten p c)) 0 9) k) 2) (turned-now (desk-of p [] []) d c w refl) ∙ t in
+    ap (λ k. pick (good-call l c) (pick (eqb k 0) (pick (fits l (rewritten p c)) 0 9) k) 2) (turned-now (desk-of p [] []) d c w refl) ∙ t in
     record {
-        entry = ap (entry-of p) e;
-        paper = ap (rewritten p) e;
-        allowed = ap (turned l (desk-of p [] [])) e ∙ alone;
-        fit = f }
+      entry = ap (entry-of p) e;
+      paper = ap (rewritten p) e;
+      allowed = ap (turned l (desk-of p [] [])) e ∙ alone;
+      fit = f;
+    }
 
 write-at : (l : Limits) (p : Paper) (back ahead : List Entry) (c : Call) → Sane l p back ahead → writes c ≡ true → turned l (desk-of p back ahead) c ≡ 0 →
     Stands-for l (rewritten p c) (kept (l .undos) (entry-of p c ∷ back)) [] (after l (desk-of p back ahead) c)
@@ -187,19 +188,23 @@ write-at l p back ahead c h w t =
     let to : Desk = record { now = q; past = remembered u (record { paper = p; much = how-much p c } ∷ past-of back p); future = [] } in
     let is : to ≡ after l d c = sym (done l d c t ∙ ap (λ b. pick {A = Desk} b to (moved l d c)) w) in
     let begins : past-of (e ∷ back) q ≡ record { paper = p; much = how-much p c } ∷ past-of back p =
-        λ i. record { paper = back-is i; much = much-is i } ∷ past-of back (back-is i) in
+    λ i. record { paper = back-is i; much = much-is i } ∷ past-of back (back-is i) in
     let past : remembered u (record { paper = p; much = how-much p c } ∷ past-of back p) ≡ past-of (kept u (e ∷ back)) q =
-        sym (kept-remembered u (e ∷ back) q ∙ ap (remembered u) begins) in
+    sym (kept-remembered u (e ∷ back) q ∙ ap (remembered u) begins) in
     let made : Made l e p q = made-now l d c w t (h .fit) in
     let sane : Sane-back l (e ∷ back) q = subst (λ x. Made l e x q × Sane-back l back x) (sym back-is) (made, h .behind) in
     subst (Stands-for l q (kept u (e ∷ back)) []) is
-        (record { now = refl; past = past; future = refl;
-                  sane = record { fit = n .2; behind = kept-sane l u (e ∷ back) q sane; before = tt; within = omega (arith, kept-within u (e ∷ back)) } })
+    (record {
+      now = refl;
+      past = past;
+      future = refl;
+      sane = record { fit = n .2; behind = kept-sane l u (e ∷ back) q sane; before = tt; within = omega (arith, kept-within u (e ∷ back)) };
+    })
 
 pub write-steps : Write-steps
 write-steps l p back ahead d c st w t =
     subst (λ (x : Desk). turned l x c ≡ 0 → Stands-for l (rewritten p c) (kept (l .undos) (entry-of p c ∷ back)) [] (after l x c))
-        (the-desk l p back ahead d st) (write-at l p back ahead c (st .sane) w) t
+    (the-desk l p back ahead d st) (write-at l p back ahead c (st .sane) w) t
 
 -- undo and redo are not turned away but for want of entries
 only-seven : (n : ℕ) → pick {A = ℕ} (eqb (pick (eqb n 0) 7 0) 0) 0 (pick (eqb n 0) 7 0) ≡ pick (eqb n 0) 7 0
@@ -224,12 +229,12 @@ redo-turned-at l p back ahead h k =
 pub undo-turned : Undo-turned
 undo-turned l p back ahead d st k =
     subst (λ (x : Desk). (turned l x undo ≡ pick (eqb (length back) 0) 7 0) × (told x undo ≡ number (length back)))
-        (the-desk l p back ahead d st) (undo-turned-at l p back ahead (st .sane) k)
+    (the-desk l p back ahead d st) (undo-turned-at l p back ahead (st .sane) k)
 
 pub redo-turned : Redo-turned
 redo-turned l p back ahead d st k =
     subst (λ (x : Desk). (turned l x redo ≡ pick (eqb (length ahead) 0) 7 0) × (told x redo ≡ number (length ahead)))
-        (the-desk l p back ahead d st) (redo-turned-at l p back ahead (st .sane) k)
+    (the-desk l p back ahead d st) (redo-turned-at l p back ahead (st .sane) k)
 
 undo-at : (l : Limits) (p : Paper) (e : Entry) (back ahead : List Entry) → Sane l p (e ∷ back) ahead → l .calls-can 5 ≡ true →
     Stands-for l (undo-of e p) back (e ∷ ahead) (after l (desk-of p (e ∷ back) ahead) undo)
@@ -241,11 +246,15 @@ undo-at l p e back ahead h k =
     let m : Made l e q p = h .behind .0 in
     let again : p ≡ redo-of e q = sym (m .paper) in
     let future : record { paper = p; much = much e } ∷ future-of ahead p ≡ future-of (e ∷ ahead) q =
-        ap (λ (x : Paper). record { paper = x; much = much e } ∷ future-of ahead x) again in
+    ap (λ (x : Paper). record { paper = x; much = much e } ∷ future-of ahead x) again in
     let before : Sane-ahead l (e ∷ ahead) q = subst (λ (x : Paper). Made l e q x × Sane-ahead l ahead x) again (m, h .before) in
     subst (Stands-for l q back (e ∷ ahead)) (sym (done l d undo t))
-        (record { now = refl; past = refl; future = future;
-                  sane = record { fit = m .fit; behind = h .behind .1; before = before; within = omega arith } })
+    (record {
+      now = refl;
+      past = refl;
+      future = future;
+      sane = record { fit = m .fit; behind = h .behind .1; before = before; within = omega arith };
+    })
 
 redo-at : (l : Limits) (p : Paper) (e : Entry) (back ahead : List Entry) → Sane l p back (e ∷ ahead) → l .calls-can 6 ≡ true →
     Stands-for l (redo-of e p) (e ∷ back) ahead (after l (desk-of p back (e ∷ ahead)) redo)
@@ -257,11 +266,15 @@ redo-at l p e back ahead h k =
     let m : Made l e p q = h .before .0 in
     let again : p ≡ undo-of e q = sym (made-undone l e p q m) in
     let past : record { paper = p; much = much e } ∷ past-of back p ≡ past-of (e ∷ back) q =
-        ap (λ (x : Paper). record { paper = x; much = much e } ∷ past-of back x) again in
+    ap (λ (x : Paper). record { paper = x; much = much e } ∷ past-of back x) again in
     let behind : Sane-back l (e ∷ back) q = subst (λ (x : Paper). Made l e x q × Sane-back l back x) again (m, h .behind) in
     subst (Stands-for l q (e ∷ back) ahead) (sym (done l d redo t))
-        (record { now = refl; past = past; future = refl;
-                  sane = record { fit = made-fits l e p q m; behind = behind; before = h .before .1; within = omega arith } })
+    (record {
+      now = refl;
+      past = past;
+      future = refl;
+      sane = record { fit = made-fits l e p q m; behind = behind; before = h .before .1; within = omega arith };
+    })
 
 pub undo-steps : Undo-steps
 undo-steps l p e back ahead d st k =
@@ -302,3 +315,75 @@ pub looking-keeps : Looking-keeps
 looking-keeps l p back ahead d c st h =
     let e : after l d c ≡ d = ap (λ x. pick (eqb (turned l d c) 0) x d) (looked l d c h) ∙ either-way (eqb (turned l d c) 0) d in
     subst (Stands-for l p back ahead) (sym e) st
+
+-- The oldest of some entries, and what entries count with one more at the end.
+pub oldest : (e : Entry) (es : List Entry) → (front : List Entry) × (last : Entry) × (e ∷ es ≡ front ++ (last ∷ []))
+oldest e [] = ([], e, refl)
+oldest e (f ∷ es) = let r = oldest f es in (e ∷ r .0, r .1, ap (λ xs. e ∷ xs) (r .2))
+
+pub all-count-push : (es : List Entry) (e : Entry) → all-count (es ++ (e ∷ [])) ≡ all-count es + counts e
+unfolding all-count
+all-count-push [] e = omega arith
+all-count-push (x ∷ es) e = omega (arith, all-count-push es e)
+
+-- Over all calls.
+Standing : Limits → Desk → Type 0
+Standing l d = (p : Paper) × (back : List Entry) × (ahead : List Entry) × Stands-for l p back ahead d
+
+undo-one : (l : Limits) (p : Paper) (back ahead : List Entry) (d : Desk) → Stands-for l p back ahead d → turned l d undo ≡ 0 → Standing l (after l d undo)
+unfolding Standing call-number good-fields
+undo-one l p [] ahead d st t =
+    let can : l .calls-can 5 ≡ true = and-parts _ _ (not-turned l d undo t .0) .0 in
+    let x = undo-turned l p [] ahead d st can .0 in
+    absurd (omega arith)
+undo-one l p (e ∷ back) ahead d st t =
+    let can : l .calls-can 5 ≡ true = and-parts _ _ (not-turned l d undo t .0) .0 in
+    (undo-of e p, back, e ∷ ahead, undo-steps l p e back ahead d st can)
+
+redo-one : (l : Limits) (p : Paper) (back ahead : List Entry) (d : Desk) → Stands-for l p back ahead d → turned l d redo ≡ 0 → Standing l (after l d redo)
+unfolding Standing call-number good-fields
+redo-one l p back [] d st t =
+    let can : l .calls-can 6 ≡ true = and-parts _ _ (not-turned l d redo t .0) .0 in
+    let x = redo-turned l p back [] d st can .0 in
+    absurd (omega arith)
+redo-one l p back (e ∷ ahead) d st t =
+    let can : l .calls-can 6 ≡ true = and-parts _ _ (not-turned l d redo t .0) .0 in
+    (redo-of e p, e ∷ back, ahead, redo-steps l p e back ahead d st can)
+
+module _ (l : Limits) (p : Paper) (back ahead : List Entry) (d : Desk) (st : Stands-for l p back ahead d) where
+  wrote : (c : Call) → writes c ≡ true → turned l d c ≡ 0 → Standing l (after l d c)
+  unfolding Standing
+  wrote c w t = (rewritten p c, kept (l .undos) (entry-of p c ∷ back), [], write-steps l p back ahead d c st w t)
+
+  same : (c : Call) → 6 < call-number c → Standing l (after l d c)
+  unfolding Standing
+  same c h = (p, back, ahead, looking-keeps l p back ahead d c st h)
+
+  step-done : (c : Call) → turned l d c ≡ 0 → Standing l (after l d c)
+  unfolding writes call-number
+  step-done (put a i s ls) t = wrote (put a i s ls) refl t
+  step-done (strikes a i n) t = wrote (strikes a i n) refl t
+  step-done (accepts c) t = wrote (accepts c) refl t
+  step-done (rejects c) t = wrote (rejects c) refl t
+  step-done (styles i n s) t = wrote (styles i n s) refl t
+  step-done undo t = undo-one l p back ahead d st t
+  step-done redo t = redo-one l p back ahead d st t
+  step-done (show k w r n) t = same (show k w r n) (omega arith)
+  step-done (find k i ls) t = same (find k i ls) (omega arith)
+  step-done (count k) t = same (count k) (omega arith)
+  step-done (change c) t = same (change c) (omega arith)
+  step-done (save i n) t = same (save i n) (omega arith)
+
+  step : (c : Call) (n : ℕ) → turned l d c ≡ n → Standing l (after l d c)
+  unfolding Standing
+  step c zero t = step-done c t
+  step c (suc n) t = (p, back, ahead, turned-keeps l p back ahead d c st (omega arith))
+
+stands-ran : (l : Limits) (cs : List Call) (d : Desk) → Standing l d → Standing l (ran l d cs)
+unfolding ran Standing
+stands-ran l [] d st = st
+stands-ran l (c ∷ cs) d st = stands-ran l cs (after l d c) (step l (st .0) (st .1) (st .2) d (st .3) c (turned l d c) refl)
+
+pub always-stands : Always-stands
+unfolding Standing
+always-stands l cs = stands-ran l cs new-desk (record { cells = []; changes = [] }, [], [], opens l)

@@ -48,7 +48,7 @@ drop-strike (x ∷ xs) (suc n) cs a c =
     let ys : List Cell = strike xs n cs a c in
     let y : Cell = record { letter = x .letter; style = x .style; put-in = x .put-in; struck = pick (eqb (x .struck) 0) (suc c) (x .struck) } in
     elim (eqb (author-of cs (x .put-in)) (suc a)) as (λ b. drop (pick {A = ℕ} b 0 1 + k) (pick b ys (y ∷ ys)) ≡ drop n xs)
-        [ true ↦ rw zero-add ih | false ↦ rw one-add ih ]
+    [ true ↦ rw zero-add ih | false ↦ rw one-add ih ]
 
 pub drop-styled : (xs : List Cell) (n s : ℕ) → drop (length (take n xs)) (styled xs n s) ≡ drop n xs
 unfolding styled
@@ -91,14 +91,14 @@ unfolding accept marks marks-back
 accept-back pre [] c i e = refl
 accept-back pre (x ∷ xs) c i e =
     step-back (goes-accepted c) (eqb (x .put-in) (suc c) || eqb (x .struck) (suc c)) pre xs (accept xs c) _ x _ i (marks xs c (suc i)) e refl
-        (λ t. let o = or-parts (eqb (x .put-in) (suc c)) (eqb (x .struck) (suc c)) t in rw (o .0, o .1)) (accept-back (pre ++ (x ∷ [])) xs c (suc i) (suc-push pre x i e))
+    (λ t. let o = or-parts (eqb (x .put-in) (suc c)) (eqb (x .struck) (suc c)) t in rw (o .0, o .1)) (accept-back (pre ++ (x ∷ [])) xs c (suc i) (suc-push pre x i e))
 
 pub reject-back : (pre xs : List Cell) (c i : ℕ) → length pre ≡ i → marks-back (goes-rejected c) (marks xs c i) (pre ++ reject xs c) ≡ pre ++ xs
 unfolding reject marks marks-back
 reject-back pre [] c i e = refl
 reject-back pre (x ∷ xs) c i e =
     step-back (goes-rejected c) (eqb (x .put-in) (suc c) || eqb (x .struck) (suc c)) pre xs (reject xs c) _ x _ i (marks xs c (suc i)) e refl
-        (λ t. let o = or-parts (eqb (x .put-in) (suc c)) (eqb (x .struck) (suc c)) t in rw (o .0, o .1)) (reject-back (pre ++ (x ∷ [])) xs c (suc i) (suc-push pre x i e))
+    (λ t. let o = or-parts (eqb (x .put-in) (suc c)) (eqb (x .struck) (suc c)) t in rw (o .0, o .1)) (reject-back (pre ++ (x ∷ [])) xs c (suc i) (suc-push pre x i e))
 
 pub length-marks : (xs : List Cell) (c i : ℕ) → length (marks xs c i) ≡ touched xs c
 unfolding marks touched
@@ -108,7 +108,7 @@ length-marks (x ∷ xs) c i =
     let ms : List Mark = marks xs c (suc i) in
     let ih : length ms ≡ touched xs c = length-marks xs c (suc i) in
     elim (eqb (x .put-in) (suc c) || eqb (x .struck) (suc c)) as (λ b. length (pick b (m ∷ ms) ms) ≡ pick {A = ℕ} b 1 0 + touched xs c)
-        [ true ↦ omega arith | false ↦ omega arith ]
+    [ true ↦ omega arith | false ↦ omega arith ]
 
 -- the row of changes
 but-last-push : (cs : List Change) (x : Change) → but-last (cs ++ (x ∷ [])) ≡ cs
@@ -124,7 +124,7 @@ open-again cs c b h o =
     let d : getD cs c (record { author = 0; became = 3 }) ≡ getD cs c z = getD-default cs c _ z h in
     let o′ : 0 ≡ getD cs c z .became = sym o ∙ ap (λ (x : Change). x .became) d in
     let back : _≡_ {A = Change} (record { author = getD (set cs c y) c z .author; became = 0 }) (getD cs c z) =
-        λ i. record { author = ap (λ (x : Change). x .author) same i; became = o′ i } in
+    λ i. record { author = ap (λ (x : Change). x .author) same i; became = o′ i } in
     set-set cs c y _ ∙ ap (λ (x : Change). set cs c x) back ∙ set-getD cs c z
 
 pub undo-brings-back : Undo-brings-back
@@ -132,20 +132,20 @@ unfolding entry-of undo-of rewritten Can
 undo-brings-back p (put a i s ls) h =
     let new : List Cell = new-cells ls s (length (p .changes)) in
     same-paper _ p
-        (run-brings-back i (length ls) [] (new ++ drop i (p .cells)) (drop i (p .cells)) (p .cells) h refl (drop-at new _ (length ls) (length-new ls s _)))
-        (but-last-push (p .changes) _)
+    (run-brings-back i (length ls) [] (new ++ drop i (p .cells)) (drop i (p .cells)) (p .cells) h refl (drop-at new _ (length ls) (length-new ls s _)))
+    (but-last-push (p .changes) _)
 undo-brings-back p (strikes a i n) h =
     same-paper _ p
-        (run-brings-back i _ (take n (drop i (p .cells))) _ (drop n (drop i (p .cells))) (p .cells) (omega arith) (sym (take-append-drop n (drop i (p .cells))))
-            (drop-strike (drop i (p .cells)) n (p .changes) a (length (p .changes))))
-        (but-last-push (p .changes) _)
+    (run-brings-back i _ (take n (drop i (p .cells))) _ (drop n (drop i (p .cells))) (p .cells) (omega arith) (sym (take-append-drop n (drop i (p .cells))))
+    (drop-strike (drop i (p .cells)) n (p .changes) a (length (p .changes))))
+    (but-last-push (p .changes) _)
 undo-brings-back p (accepts c) h = same-paper _ p (accept-back [] (p .cells) c 0 refl) (open-again (p .changes) c 1 (h .0) (h .1))
 undo-brings-back p (rejects c) h = same-paper _ p (reject-back [] (p .cells) c 0 refl) (open-again (p .changes) c 2 (h .0) (h .1))
 undo-brings-back p (styles i n s) h =
     same-paper _ p
-        (run-brings-back i _ (take n (drop i (p .cells))) _ (drop n (drop i (p .cells))) (p .cells) (omega arith) (sym (take-append-drop n (drop i (p .cells))))
-            (drop-styled (drop i (p .cells)) n s))
-        refl
+    (run-brings-back i _ (take n (drop i (p .cells))) _ (drop n (drop i (p .cells))) (p .cells) (omega arith) (sym (take-append-drop n (drop i (p .cells))))
+    (drop-styled (drop i (p .cells)) n s))
+    refl
 undo-brings-back p undo h = absurd h
 undo-brings-back p redo h = absurd h
 undo-brings-back p (show k w r n) h = absurd h
@@ -216,14 +216,14 @@ unfolding accept marks Placed
 placed-accept [] c i = tt
 placed-accept (x ∷ xs) c i =
     placed-step (goes-accepted c) x _ (accept xs c) _ i (marks xs c (suc i)) (eqb (x .put-in) (suc c) || eqb (x .struck) (suc c)) refl
-        (λ t. let o = or-parts (eqb (x .put-in) (suc c)) (eqb (x .struck) (suc c)) t in rw (o .0, o .1)) (placed-accept xs c (suc i))
+    (λ t. let o = or-parts (eqb (x .put-in) (suc c)) (eqb (x .struck) (suc c)) t in rw (o .0, o .1)) (placed-accept xs c (suc i))
 
 placed-reject : (xs : List Cell) (c i : ℕ) → Placed (goes-rejected c) (marks xs c i) (i + length (reject xs c))
 unfolding reject marks Placed
 placed-reject [] c i = tt
 placed-reject (x ∷ xs) c i =
     placed-step (goes-rejected c) x _ (reject xs c) _ i (marks xs c (suc i)) (eqb (x .put-in) (suc c) || eqb (x .struck) (suc c)) refl
-        (λ t. let o = or-parts (eqb (x .put-in) (suc c)) (eqb (x .struck) (suc c)) t in rw (o .0, o .1)) (placed-reject xs c (suc i))
+    (λ t. let o = or-parts (eqb (x .put-in) (suc c)) (eqb (x .struck) (suc c)) t in rw (o .0, o .1)) (placed-reject xs c (suc i))
 
 -- as many stay as are there
 length-strike : (xs : List Cell) (n : ℕ) (cs : List Change) (a c : ℕ) → staying (take n xs) cs a ≤ length (strike xs n cs a c)

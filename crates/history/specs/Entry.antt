@@ -18,11 +18,11 @@ pub record Mark : Type 0 where
 -- put: the letters; struck: how many of the cells stayed, and all of them as they were; styled: the cells as they were;
 -- accepted and rejected: each cell that had the change's mark, in ascending order of place.
 pub data Entry : Type 0 where
-  was-put : ℕ → ℕ → ℕ → List ℕ → Entry         -- author, place, style, letters
-  was-struck : ℕ → ℕ → ℕ → List Cell → Entry   -- author, place, how many stayed, old cells
-  was-accepted : ℕ → List Mark → Entry         -- change
-  was-rejected : ℕ → List Mark → Entry         -- change
-  was-styled : ℕ → ℕ → List Cell → Entry       -- place, style, old cells
+  was-put : ℕ → ℕ → ℕ → List ℕ → Entry  -- author, place, style, letters
+  was-struck : ℕ → ℕ → ℕ → List Cell → Entry  -- author, place, how many stayed, old cells
+  was-accepted : ℕ → List Mark → Entry  -- change
+  was-rejected : ℕ → List Mark → Entry  -- change
+  was-styled : ℕ → ℕ → List Cell → Entry  -- place, style, old cells
 
 -- how many of these cells stay when author a strikes them out: those that no open change of the same author put in
 unfoldable pub staying : List Cell → List Change → ℕ → ℕ

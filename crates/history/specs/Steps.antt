@@ -6,7 +6,7 @@ use Prim.Native.Nat.{ℕ, _+_, _-_, _≤_, _<_}
 use lib.Dec.{leb, eqb}
 use lib.ListN.{length}
 use Rattle.model.specs.Paper.{pick, Paper}
-use Rattle.model.specs.Calls.{Call, undo, redo, number, Before, Desk, Limits, call-number, writes, rewritten, remembered, fits, turned, after, told, new-desk}
+use Rattle.model.specs.Calls.{Call, undo, redo, number, Before, Desk, Limits, call-number, writes, rewritten, remembered, fits, turned, after, told, ran, new-desk}
 use Rattle.history.specs.Entry.{Entry, counts, much, call-of, entry-of, undo-of, redo-of}
 
 -- the papers that undo brings back, and those that redo brings back, from the paper p and the entries on either side of it
@@ -115,3 +115,9 @@ abbrev pub Looking-keeps : Type 0
 Looking-keeps =
     (l : Limits) (p : Paper) (back ahead : List Entry) (d : Desk) (c : Call) → Stands-for l p back ahead d → 6 < call-number c →
     Stands-for l p back ahead (after l d c)
+
+-- so whatever was called, a paper and its entries stand for the desk
+abbrev pub Always-stands : Type 0
+Always-stands =
+    (l : Limits) (cs : List Call) →
+    (p : Paper) × (back : List Entry) × (ahead : List Entry) × Stands-for l p back ahead (ran l new-desk cs)

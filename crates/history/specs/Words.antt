@@ -51,10 +51,10 @@ marks-read (suc n) ws =
 unfoldable pub read-entry : List ℕ → Entry
 read-entry ws =
     pick (eqb (getD ws 2 0) 0) (was-put (getD ws 3 0) (getD ws 4 0) (getD ws 6 0) (take (getD ws 1 0 - 1) (drop 7 ws)))
-        (pick (eqb (getD ws 2 0) 1) (was-struck (getD ws 3 0) (getD ws 4 0) (getD ws 5 0) (cells-read (getD ws 1 0 - 1) (drop 7 ws)))
-            (pick (eqb (getD ws 2 0) 2) (was-accepted (getD ws 3 0) (marks-read (getD ws 1 0 - 1) (drop 7 ws)))
-                (pick (eqb (getD ws 2 0) 3) (was-rejected (getD ws 3 0) (marks-read (getD ws 1 0 - 1) (drop 7 ws)))
-                    (was-styled (getD ws 4 0) (getD ws 6 0) (cells-read (getD ws 1 0 - 1) (drop 7 ws))))))
+    (pick (eqb (getD ws 2 0) 1) (was-struck (getD ws 3 0) (getD ws 4 0) (getD ws 5 0) (cells-read (getD ws 1 0 - 1) (drop 7 ws)))
+    (pick (eqb (getD ws 2 0) 2) (was-accepted (getD ws 3 0) (marks-read (getD ws 1 0 - 1) (drop 7 ws)))
+    (pick (eqb (getD ws 2 0) 3) (was-rejected (getD ws 3 0) (marks-read (getD ws 1 0 - 1) (drop 7 ws)))
+    (was-styled (getD ws 4 0) (getD ws 6 0) (cells-read (getD ws 1 0 - 1) (drop 7 ws))))))
 
 -- The words of entries, the oldest first: of those that can be undone, of which the latest comes first in the list,
 -- and of those that can be done again, of which the oldest comes first.
@@ -74,6 +74,14 @@ pub record Logged (ws : List ℕ) (start cursor end : ℕ) (back ahead : List En
   pub ended : cursor ≤ end
   pub inside : end ≤ length ws
 
+-- an entry that stands in the words ws from place a on
+pub record Entry-at (ws : List ℕ) (a : ℕ) (e : Entry) : Type 0 where
+  pub words : between a (a + size e) ws ≡ entry-words e
+  pub size-word : getD ws a 0 ≡ size e
+  pub count-word : getD ws (a + 1) 0 ≡ counts e
+  pub last-word : getD ws (a + size e - 1) 0 ≡ size e
+  pub reads : read-entry (drop a ws) ≡ e
+
 -- An entry is read back from its words, whatever comes after them; so two entries with the same words are one.
 -- Its words are size many, and at most 8 for each that it counts.
 abbrev pub Reads-back : Type 0
@@ -91,22 +99,29 @@ Log-long =
     (ws : List ℕ) (s c t : ℕ) (back ahead : List Entry) → Logged ws s c t back ahead →
     (c ≤ s + 8 * all-count back) × (t ≤ c + 8 * all-count ahead) × (8 * length back ≤ c - s) × (8 * length ahead ≤ t - c)
 
--- A step back: the last word behind the cursor tells the size of the latest entry, which then stands at the cursor. A step ahead likewise.
+-- the words of a log are of one list of entries on either side
+abbrev pub One-log : Type 0
+One-log =
+    (ws : List ℕ) (s c t : ℕ) (back ahead back′ ahead′ : List Entry) → Logged ws s c t back ahead → Logged ws s c t back′ ahead′ →
+    (back ≡ back′) × (ahead ≡ ahead′)
+
+-- A step back: the last word behind the cursor tells the size of the latest entry, which then stands at the cursor.
+-- A step ahead: the word at the cursor tells the size of the entry there.
 abbrev pub Log-back : Type 0
 Log-back =
     (ws : List ℕ) (s c t : ℕ) (e : Entry) (back ahead : List Entry) → Logged ws s c t (e ∷ back) ahead →
-    (getD ws (c - 1) 0 ≡ size e) × (s + size e ≤ c) × (read-entry (drop (c - size e) ws) ≡ e) × Logged ws s (c - size e) t back (e ∷ ahead)
+    (getD ws (c - 1) 0 ≡ size e) × (s + size e ≤ c) × Entry-at ws (c - size e) e × Logged ws s (c - size e) t back (e ∷ ahead)
 
 abbrev pub Log-ahead : Type 0
 Log-ahead =
     (ws : List ℕ) (s c t : ℕ) (e : Entry) (back ahead : List Entry) → Logged ws s c t back (e ∷ ahead) →
-    (getD ws c 0 ≡ size e) × (c + size e ≤ t) × (read-entry (drop c ws) ≡ e) × Logged ws s (c + size e) t (e ∷ back) ahead
+    (c + size e ≤ t) × Entry-at ws c e × Logged ws s (c + size e) t (e ∷ back) ahead
 
--- the oldest is forgotten: its first two words tell its size and what it counts
+-- the oldest is forgotten, which stands at the start
 abbrev pub Log-forgets : Type 0
 Log-forgets =
     (ws : List ℕ) (s c t : ℕ) (e : Entry) (back ahead : List Entry) → Logged ws s c t (back ++ (e ∷ [])) ahead →
-    (getD ws s 0 ≡ size e) × (getD ws (s + 1) 0 ≡ counts e) × (s + size e ≤ c) × Logged ws (s + size e) c t back ahead
+    (s + size e ≤ c) × Entry-at ws s e × Logged ws (s + size e) c t back ahead
 
 -- what could be done again is dropped, and an entry is pushed: only the words from the cursor on may change
 abbrev pub Log-drops : Type 0
