@@ -3,17 +3,16 @@ use mathlib.Core.Path.{_≡_, refl, sym, ap, subst, _∙_}
 use mathlib.Core.List.{List, [], _∷_, _++_}
 use Prim.Native.Nat.{ℕ, zero, suc, _+_, _-_, _*_, _≤_, _<_}
 use native.Mathlib.Omega.{arith}
-use lib.Dec.{eqb}
 use lib.ListN.{length, getD, take, drop}
 use Rattle.std.specs.Holes.{between}
-use Rattle.std.proofs.shelf.Lists.{append-assoc, append-nil, length-append, length-take-le, length-drop, take-append-drop, take-at, drop-at, take-take, drop-drop, getD-take, getD-drop, length-push, getD-append-right, getD-append-left, getD-append-add, getD-push}
+use Rattle.std.proofs.shelf.Lists.{append-assoc, append-nil, length-append, take-append-drop, take-at, drop-at, drop-drop, getD-push}
 use Rattle.std.proofs.shelf.Edits.{length-between, getD-between, between-none}
 use lib.Seq.{take-add}
 use Rattle.std.proofs.shelf.Parts.{between-is}
-use Rattle.model.specs.Paper.{pick, Cell, cells-written}
-use Rattle.history.specs.Entry.{Mark, Entry, was-put, was-struck, was-accepted, was-rejected, was-styled, much, counts}
+use Rattle.model.specs.Paper.{Cell, cells-written}
+use Rattle.history.specs.Entry.{Mark, Entry, was-put, was-struck, was-accepted, was-rejected, was-styled, much-of, counts}
 use Rattle.history.specs.Steps.{all-count}
-use Rattle.history.specs.Words.{marks-written, head-words, payload, size, entry-words, cells-read, marks-read, read-entry, back-words, ahead-words, Logged, Entry-at, Reads-back, One-entry, Entry-long, Log-long, One-log, Log-back, Log-ahead, Log-forgets, Log-drops, Log-pushes, Log-moves}
+use Rattle.history.specs.Words.{marks-written, head-words, payload-words, entry-size, entry-words, cells-read, marks-read, read-entry, back-words, ahead-words, Logged, Entry-at, Reads-back, One-entry, Entry-long, Log-long, One-log, Log-back, Log-ahead, Log-forgets, Log-drops, Log-pushes, Log-moves}
 
 less-one : (n : ℕ) → suc n - 1 ≡ n
 less-one n = omega arith
@@ -39,7 +38,7 @@ letters-there : (ls tail rest : List ℕ) → take (suc (length ls) - 1) ((ls ++
 letters-there ls tail rest = rw (less-one (length ls), append-assoc ls tail rest) (take-at ls (tail ++ rest) (length ls) refl)
 
 pub reads-back : Reads-back
-unfolding entry-words head-words payload read-entry much
+unfolding entry-words head-words payload-words read-entry much-of
 reads-back (was-put a i s ls) rest = ap (was-put a i s) (letters-there ls _ rest)
 reads-back (was-struck a i k old) rest = ap (was-struck a i k) (cells-there old _ rest)
 reads-back (was-accepted c ms) rest = ap (was-accepted c) (marks-there ms _ rest)
@@ -60,8 +59,8 @@ unfolding marks-written
 length-marks-written [] = refl
 length-marks-written (m ∷ ms) = omega (arith, length-marks-written ms)
 
-pub length-payload : (e : Entry) → length (payload e) ≤ 5 * much e
-unfolding payload much
+pub length-payload : (e : Entry) → length (payload-words e) ≤ 5 * much-of e
+unfolding payload-words much-of
 length-payload (was-put a i s ls) = omega arith
 length-payload (was-struck a i k old) = omega (arith, length-cells-written old)
 length-payload (was-accepted c ms) = omega (arith, length-marks-written ms)
@@ -76,7 +75,7 @@ length-head (was-accepted c ms) = refl
 length-head (was-rejected c ms) = refl
 length-head (was-styled i s old) = refl
 
-pub length-entry : (e : Entry) → length (entry-words e) ≡ size e
+pub length-entry : (e : Entry) → length (entry-words e) ≡ entry-size e
 unfolding entry-words
 length-entry e = simp (length-append, length-head e) (omega arith)
 
@@ -84,7 +83,7 @@ pub entry-long : Entry-long
 entry-long e = (length-entry e, omega (arith, length-payload e))
 
 -- the first, the second and the last word of an entry
-entry-first : (e : Entry) → getD (entry-words e) 0 0 ≡ size e
+entry-first : (e : Entry) → getD (entry-words e) 0 0 ≡ entry-size e
 unfolding entry-words
 entry-first e = refl
 
@@ -92,13 +91,13 @@ entry-second : (e : Entry) → getD (entry-words e) 1 0 ≡ counts e
 unfolding entry-words
 entry-second e = refl
 
-entry-last : (e : Entry) → getD (entry-words e) (size e - 1) 0 ≡ size e
+entry-last : (e : Entry) → getD (entry-words e) (entry-size e - 1) 0 ≡ entry-size e
 unfolding entry-words
 entry-last e =
-    let front : List ℕ = size e ∷ (counts e ∷ (head-words e ++ payload e)) in
-    let n : length front ≡ size e - 1 = simp (length-append, length-head e) (omega arith) in
-    let same : entry-words e ≡ front ++ (size e ∷ []) = ap (λ ws. size e ∷ (counts e ∷ ws)) (sym (append-assoc (head-words e) (payload e) (size e ∷ []))) in
-    ap (λ ws. getD ws (size e - 1) 0) same ∙ getD-push front (size e) 0 (size e - 1) n
+    let front : List ℕ = entry-size e ∷ (counts e ∷ (head-words e ++ payload-words e)) in
+    let n : length front ≡ entry-size e - 1 = simp (length-append, length-head e) (omega arith) in
+    let same : entry-words e ≡ front ++ (entry-size e ∷ []) = ap (λ ws. entry-size e ∷ (counts e ∷ ws)) (sym (append-assoc (head-words e) (payload-words e) (entry-size e ∷ []))) in
+    ap (λ ws. getD ws (entry-size e - 1) 0) same ∙ getD-push front (entry-size e) 0 (entry-size e - 1) n
 
 -- Parts of a list of words, from one place to another.
 between-join : (ws : List ℕ) (i j k : ℕ) → i ≤ j → j ≤ k → between i k ws ≡ between i j ws ++ between j k ws
@@ -128,20 +127,20 @@ falls ws i j k xs ys a b h e =
     }
 
 -- an entry that stands in words
-there : (ws : List ℕ) (a : ℕ) (e : Entry) → between a (a + size e) ws ≡ entry-words e → Entry-at ws a e
+there : (ws : List ℕ) (a : ℕ) (e : Entry) → between a (a + entry-size e) ws ≡ entry-words e → Entry-at ws a e
 there ws a e h =
-    let at : (k : ℕ) → k < size e → getD ws (a + k) 0 ≡ getD (entry-words e) k 0 =
-    λ k b. sym (getD-between ws a (a + size e) k 0 (omega arith)) ∙ ap (λ xs. getD xs k 0) h in
+    let at : (k : ℕ) → k < entry-size e → getD ws (a + k) 0 ≡ getD (entry-words e) k 0 =
+    λ k b. sym (getD-between ws a (a + entry-size e) k 0 (omega arith)) ∙ ap (λ xs. getD xs k 0) h in
     let z : a ≡ a + 0 = omega arith in
-    let y : a + size e - 1 ≡ a + (size e - 1) = omega arith in
-    let n : size e ≡ a + size e - a = omega arith in
-    let split : drop a ws ≡ entry-words e ++ drop (size e) (drop a ws) =
-    sym (take-append-drop (size e) (drop a ws)) ∙ ap (λ xs. xs ++ drop (size e) (drop a ws)) (ap (λ x. take x (drop a ws)) n ∙ h) in
+    let y : a + entry-size e - 1 ≡ a + (entry-size e - 1) = omega arith in
+    let n : entry-size e ≡ a + entry-size e - a = omega arith in
+    let split : drop a ws ≡ entry-words e ++ drop (entry-size e) (drop a ws) =
+    sym (take-append-drop (entry-size e) (drop a ws)) ∙ ap (λ xs. xs ++ drop (entry-size e) (drop a ws)) (ap (λ x. take x (drop a ws)) n ∙ h) in
     record {
       words = h;
       size-word = ap (λ x. getD ws x 0) z ∙ at 0 (omega arith) ∙ entry-first e;
       count-word = at 1 (omega arith) ∙ entry-second e;
-      last-word = ap (λ x. getD ws x 0) y ∙ at (size e - 1) (omega arith) ∙ entry-last e;
+      last-word = ap (λ x. getD ws x 0) y ∙ at (entry-size e - 1) (omega arith) ∙ entry-last e;
       reads = ap read-entry split ∙ reads-back e _;
     }
 
@@ -149,12 +148,12 @@ there ws a e h =
 pub log-back : Log-back
 unfolding back-words ahead-words
 log-back ws s c t e back ahead h =
-    let j : ℕ = c - size e in
+    let j : ℕ = c - entry-size e in
     let all : length (back-words back) + length (entry-words e) ≡ c - s =
     sym (length-append (back-words back) (entry-words e)) ∙ ap length (sym (h .behind)) ∙ length-between ws s c (omega arith) in
-    let le : length (entry-words e) ≡ size e = length-entry e in
+    let le : length (entry-words e) ≡ entry-size e = length-entry e in
     let f : Falls ws s j c (back-words back) (entry-words e) = falls ws s j c (back-words back) (entry-words e) (h .begun) (omega arith) (h .behind) (omega arith) in
-    let back-at : j + size e ≡ c = omega arith in
+    let back-at : j + entry-size e ≡ c = omega arith in
     let th : Entry-at ws j e = there ws j e (ap (λ x. between j x ws) back-at ∙ f .second) in
     let before : between j t ws ≡ entry-words e ++ ahead-words ahead =
     between-join ws j c t (f .reach) (h .ended) ∙ ap (λ xs. xs ++ between c t ws) (f .second) ∙ ap (λ xs. entry-words e ++ xs) (h .before) in (
@@ -167,8 +166,8 @@ log-back ws s c t e back ahead h =
 pub log-ahead : Log-ahead
 unfolding back-words ahead-words
 log-ahead ws s c t e back ahead h =
-    let j : ℕ = c + size e in
-    let le : length (entry-words e) ≡ size e = length-entry e in
+    let j : ℕ = c + entry-size e in
+    let le : length (entry-words e) ≡ entry-size e = length-entry e in
     let f : Falls ws c j t (entry-words e) (ahead-words ahead) = falls ws c j t (entry-words e) (ahead-words ahead) (h .ended) (h .inside) (h .before) (omega arith) in
     let th : Entry-at ws c e = there ws c e (f .first) in
     let behind : between s j ws ≡ back-words back ++ entry-words e =
@@ -183,8 +182,8 @@ oldest-first (x ∷ back) e = ap (λ ws. ws ++ entry-words x) (oldest-first back
 
 pub log-forgets : Log-forgets
 log-forgets ws s c t e back ahead h =
-    let j : ℕ = s + size e in
-    let le : length (entry-words e) ≡ size e = length-entry e in
+    let j : ℕ = s + entry-size e in
+    let le : length (entry-words e) ≡ entry-size e = length-entry e in
     let f : Falls ws s j c (entry-words e) (back-words back) =
     falls ws s j c (entry-words e) (back-words back) (h .begun) (omega arith) (h .behind ∙ oldest-first back e) (omega arith) in
     let th : Entry-at ws s e = there ws s e (f .first) in
@@ -197,7 +196,7 @@ log-drops ws s c t back ahead h = record { behind = h .behind; before = between-
 pub log-pushes : Log-pushes
 unfolding back-words ahead-words
 log-pushes ws new s c e back h same words room =
-    let j : ℕ = c + size e in
+    let j : ℕ = c + entry-size e in
     let old : between s c new ≡ back-words back = between-is new s c ∙ ap (drop s) same ∙ sym (between-is ws s c) ∙ h .behind in
     let behind : between s j new ≡ back-words back ++ entry-words e =
     between-join new s c j (h .begun) (omega arith) ∙ ap (λ xs. xs ++ between c j new) old ∙ ap (λ xs. back-words back ++ xs) words in
@@ -257,10 +256,10 @@ one-behind (e ∷ back) [] ahead ahead′ ws s c t h k = absurd (none-behind ws 
 one-behind (e ∷ back) (f ∷ back′) ahead ahead′ ws s c t h k =
     let x = log-back ws s c t e back ahead h in
     let y = log-back ws s c t f back′ ahead′ k in
-    let at : c - size f ≡ c - size e = ap (λ m. c - m) (sym (y .0) ∙ x .0) in
+    let at : c - entry-size f ≡ c - entry-size e = ap (λ m. c - m) (sym (y .0) ∙ x .0) in
     let same : e ≡ f = sym (x .2 .reads) ∙ ap (λ m. read-entry (drop m ws)) (sym at) ∙ y .2 .reads in
-    let k′ : Logged ws s (c - size e) t back′ (f ∷ ahead′) = subst (λ m. Logged ws s m t back′ (f ∷ ahead′)) at (y .3) in
-    let ih : back ≡ back′ = one-behind back back′ (e ∷ ahead) (f ∷ ahead′) ws s (c - size e) t (x .3) k′ in
+    let k′ : Logged ws s (c - entry-size e) t back′ (f ∷ ahead′) = subst (λ m. Logged ws s m t back′ (f ∷ ahead′)) at (y .3) in
+    let ih : back ≡ back′ = one-behind back back′ (e ∷ ahead) (f ∷ ahead′) ws s (c - entry-size e) t (x .3) k′ in
     cc
 
 one-ahead : (ahead ahead′ back back′ : List Entry) (ws : List ℕ) (s c t : ℕ) → Logged ws s c t back ahead → Logged ws s c t back′ ahead′ → ahead ≡ ahead′
@@ -271,8 +270,8 @@ one-ahead (e ∷ ahead) (f ∷ ahead′) back back′ ws s c t h k =
     let x = log-ahead ws s c t e back ahead h in
     let y = log-ahead ws s c t f back′ ahead′ k in
     let same : e ≡ f = sym (x .1 .reads) ∙ y .1 .reads in
-    let k′ : Logged ws s (c + size e) t (f ∷ back′) ahead′ = subst (λ m. Logged ws s (c + m) t (f ∷ back′) ahead′) (sym (y .1 .size-word) ∙ x .1 .size-word) (y .2) in
-    let ih : ahead ≡ ahead′ = one-ahead ahead ahead′ (e ∷ back) (f ∷ back′) ws s (c + size e) t (x .2) k′ in
+    let k′ : Logged ws s (c + entry-size e) t (f ∷ back′) ahead′ = subst (λ m. Logged ws s (c + m) t (f ∷ back′) ahead′) (sym (y .1 .size-word) ∙ x .1 .size-word) (y .2) in
+    let ih : ahead ≡ ahead′ = one-ahead ahead ahead′ (e ∷ back) (f ∷ back′) ws s (c + entry-size e) t (x .2) k′ in
     cc
 
 pub one-log : One-log

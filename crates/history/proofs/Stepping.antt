@@ -1,17 +1,17 @@
 -- That entries stand for what the desk remembers, over every step.
 use mathlib.Core.Path.{_≡_, refl, sym, ap, subst, _∙_}
-use mathlib.Core.Bool.{Bool, true, false, _&&_}
+use mathlib.Core.Bool.{Bool, true, false}
 use mathlib.Core.List.{List, [], _∷_, _++_}
 use Prim.Native.Nat.{ℕ, zero, suc, _+_, _-_, _≤_, _<_}
 use native.Mathlib.Omega.{arith}
 use lib.Dec.{ltb, leb, eqb, eqb·suc-zero, leb·zero}
-use lib.ListN.{length, getD}
+use lib.ListN.{length}
 use Rattle.std.proofs.shelf.Tests.{leb-true, leb-false, ltb-true, eqb-true, false≢true, and-parts}
 use Rattle.model.specs.Paper.{pick, Paper}
 use Rattle.model.specs.Calls.{Call, put, strikes, accepts, rejects, styles, undo, redo, show, find, count, change, save, number, Before, Desk, Limits, became, call-number, good-fields, good-call, turned-by, writes, rewritten, how-much, remembered, undone, redone, moved, changed, fits, turned, after, told, ran, new-desk}
-use Rattle.history.specs.Entry.{Entry, was-put, was-struck, was-accepted, was-rejected, was-styled, counts, much, call-of, entry-of, undo-of, redo-of, Can}
+use Rattle.history.specs.Entry.{Entry, was-put, was-struck, was-accepted, was-rejected, was-styled, counts, much-of, call-of, entry-of, undo-of, redo-of, Can, Undo-can}
 use Rattle.history.specs.Steps.{past-of, future-of, desk-of, all-count, kept, Made, Sane-back, Sane-ahead, Sane, Stands-for, Kept-remembered, Kept-within, Kept-all, Kept-forgets, Opens, Write-steps, Undo-steps, Redo-steps, Undo-turned, Redo-turned, Turned-keeps, Looking-keeps, Always-stands}
-use Rattle.history.proofs.Undoing.{undo-brings-back, much-of-entry, call-of-entry}
+use Rattle.history.proofs.Undoing.{undo-brings-back, undo-finds, much-of-entry, call-of-entry}
 
 -- A test, and what it says, as cases.
 by-leb : (P : Bool → Type 0) (a b : ℕ) → (a ≤ b → P true) → (b < a → P false) → P (leb a b)
@@ -27,7 +27,7 @@ unfolding kept past-of remembered
 kept-remembered u [] p = refl
 kept-remembered u (e ∷ es) p =
     let q : Paper = undo-of e p in
-    let b : Before = record { paper = q; much = much e } in
+    let b : Before = record { paper = q; much = much-of e } in
     let ih = kept-remembered (u - counts e) es q in
     elim (leb (counts e) u) as (λ t. past-of (pick t (e ∷ kept (u - counts e) es) []) p ≡ pick t (b ∷ remembered (u - counts e) (past-of es q)) [])
     [ true ↦ ap (λ bs. b ∷ bs) ih | false ↦ refl ]
@@ -130,7 +130,7 @@ writes-call-of (was-accepted c ms) = refl
 writes-call-of (was-rejected c ms) = refl
 writes-call-of (was-styled i s old) = refl
 
--- what a sane entry gives: plain bounds, the paper before from the paper after, and a paper after that is within the limits
+-- what a sane entry gives: plain bounds before and after, the paper before from the paper after, and a paper after that is within the limits
 module _ (l : Limits) (e : Entry) (before next : Paper) (m : Made l e before next) where
   pub made-can : Can before (call-of e)
   made-can = can-there (desk-of before [] []) (call-of e) (writes-call-of e) (not-turned l (desk-of before [] []) (call-of e) (m .allowed) .1)
@@ -140,6 +140,11 @@ module _ (l : Limits) (e : Entry) (before next : Paper) (m : Made l e before nex
 
   pub made-fits : fits l next ≡ true
   made-fits = subst (λ p. fits l p ≡ true) (m .paper) (not-turned l (desk-of before [] []) (call-of e) (m .allowed) .2)
+
+  pub made-finds : Undo-can e next
+  made-finds =
+      let u = undo-finds before (call-of e) made-can in
+      subst (λ (x : Paper). Undo-can e x) (m .paper) (subst (λ (x : Entry). Undo-can x (rewritten before (call-of e))) (m .entry) u)
 
 -- A desk that a paper and its entries stand for is that of the paper and the entries.
 the-desk : (l : Limits) (p : Paper) (back ahead : List Entry) (d : Desk) → Stands-for l p back ahead d → desk-of p back ahead ≡ d
@@ -184,7 +189,7 @@ write-at l p back ahead c h w t =
     let n = not-turned l d c t in
     let can : Can p c = can-there d c w (n .1) in
     let back-is : undo-of e q ≡ p = undo-brings-back p c can in
-    let much-is : much e ≡ how-much p c = much-of-entry p c can in
+    let much-is : much-of e ≡ how-much p c = much-of-entry p c can in
     let to : Desk = record { now = q; past = remembered u (record { paper = p; much = how-much p c } ∷ past-of back p); future = [] } in
     let is : to ≡ after l d c = sym (done l d c t ∙ ap (λ b. pick {A = Desk} b to (moved l d c)) w) in
     let begins : past-of (e ∷ back) q ≡ record { paper = p; much = how-much p c } ∷ past-of back p =
@@ -245,8 +250,8 @@ undo-at l p e back ahead h k =
     let t : turned l d undo ≡ 0 = undo-turned-at l p (e ∷ back) ahead h k .0 ∙ ap (λ b. pick {A = ℕ} b 7 0) (eqb·suc-zero (length back)) in
     let m : Made l e q p = h .behind .0 in
     let again : p ≡ redo-of e q = sym (m .paper) in
-    let future : record { paper = p; much = much e } ∷ future-of ahead p ≡ future-of (e ∷ ahead) q =
-    ap (λ (x : Paper). record { paper = x; much = much e } ∷ future-of ahead x) again in
+    let future : record { paper = p; much = much-of e } ∷ future-of ahead p ≡ future-of (e ∷ ahead) q =
+    ap (λ (x : Paper). record { paper = x; much = much-of e } ∷ future-of ahead x) again in
     let before : Sane-ahead l (e ∷ ahead) q = subst (λ (x : Paper). Made l e q x × Sane-ahead l ahead x) again (m, h .before) in
     subst (Stands-for l q back (e ∷ ahead)) (sym (done l d undo t))
     (record {
@@ -265,8 +270,8 @@ redo-at l p e back ahead h k =
     let t : turned l d redo ≡ 0 = redo-turned-at l p back (e ∷ ahead) h k .0 ∙ ap (λ b. pick {A = ℕ} b 7 0) (eqb·suc-zero (length ahead)) in
     let m : Made l e p q = h .before .0 in
     let again : p ≡ undo-of e q = sym (made-undone l e p q m) in
-    let past : record { paper = p; much = much e } ∷ past-of back p ≡ past-of (e ∷ back) q =
-    ap (λ (x : Paper). record { paper = x; much = much e } ∷ past-of back x) again in
+    let past : record { paper = p; much = much-of e } ∷ past-of back p ≡ past-of (e ∷ back) q =
+    ap (λ (x : Paper). record { paper = x; much = much-of e } ∷ past-of back x) again in
     let behind : Sane-back l (e ∷ back) q = subst (λ (x : Paper). Made l e x q × Sane-back l back x) again (m, h .behind) in
     subst (Stands-for l q (e ∷ back) ahead) (sym (done l d redo t))
     (record {

@@ -5,15 +5,15 @@ use mathlib.Core.List.{List, [], _∷_, _++_}
 use Prim.Native.Nat.{ℕ, zero, suc, _+_, _-_, _≤_, _<_}
 use native.Mathlib.Omega.{arith}
 use native.Mathlib.Nat.{zero-add}
-use native.Mathlib.Numerals.{add-one, one-add}
+use native.Mathlib.Numerals.{one-add}
 use lib.Seq.{append-snoc}
 use Rattle.std.proofs.shelf.Tests.{or-parts}
 use lib.Dec.{eqb}
 use lib.ListN.{length, getD, set, take, drop}
-use Rattle.std.proofs.shelf.Lists.{append-assoc, append-nil, length-append, length-take, length-take-le, length-drop, take-append-drop, take-at, drop-at, take-append-le, drop-drop, set-at, set-set, set-getD, getD-default, length-push, length-set, getD-set-same}
+use Rattle.std.proofs.shelf.Lists.{length-append, length-take-le, length-drop, take-append-drop, take-at, drop-at, drop-drop, set-at, set-set, set-getD, getD-default, length-push, length-set, getD-set-same}
 use Rattle.model.specs.Paper.{pick, Cell, Change, Paper, new-cells, strike, accept, reject, styled, author-of, touched}
 use Rattle.model.specs.Calls.{Call, put, strikes, accepts, rejects, styles, undo, redo, show, find, count, change, save, became, with-became, rewritten, how-much}
-use Rattle.history.specs.Entry.{Mark, Entry, was-put, was-struck, was-accepted, was-rejected, was-styled, staying, marks, entry-of, call-of, much, counts, run-back, mark-back, marks-back, goes-accepted, goes-rejected, but-last, undo-of, redo-of, Can, Placed, Undo-can, Undo-brings-back, Redo-does-again, Counts-as-much, Undo-finds}
+use Rattle.history.specs.Entry.{Mark, staying, marks-of, entry-of, call-of, much-of, run-back, mark-back, marks-back, goes-accepted, goes-rejected, but-last, undo-of, Can, Placed, Undo-can, Undo-brings-back, Redo-does-again, Counts-as-much, Undo-finds}
 
 -- two papers with the same cells and the same changes
 pub same-paper : (p q : Paper) → p .cells ≡ q .cells → p .changes ≡ q .changes → p ≡ q
@@ -86,26 +86,26 @@ suc-push : (pre : List Cell) (x : Cell) (i : ℕ) → length pre ≡ i → lengt
 suc-push pre x i e = omega (arith, length-push pre x)
 
 -- the marked cells put each cell back where it was
-pub accept-back : (pre xs : List Cell) (c i : ℕ) → length pre ≡ i → marks-back (goes-accepted c) (marks xs c i) (pre ++ accept xs c) ≡ pre ++ xs
-unfolding accept marks marks-back
+pub accept-back : (pre xs : List Cell) (c i : ℕ) → length pre ≡ i → marks-back (goes-accepted c) (marks-of xs c i) (pre ++ accept xs c) ≡ pre ++ xs
+unfolding accept marks-of marks-back
 accept-back pre [] c i e = refl
 accept-back pre (x ∷ xs) c i e =
-    step-back (goes-accepted c) (eqb (x .put-in) (suc c) || eqb (x .struck) (suc c)) pre xs (accept xs c) _ x _ i (marks xs c (suc i)) e refl
+    step-back (goes-accepted c) (eqb (x .put-in) (suc c) || eqb (x .struck) (suc c)) pre xs (accept xs c) _ x _ i (marks-of xs c (suc i)) e refl
     (λ t. let o = or-parts (eqb (x .put-in) (suc c)) (eqb (x .struck) (suc c)) t in rw (o .0, o .1)) (accept-back (pre ++ (x ∷ [])) xs c (suc i) (suc-push pre x i e))
 
-pub reject-back : (pre xs : List Cell) (c i : ℕ) → length pre ≡ i → marks-back (goes-rejected c) (marks xs c i) (pre ++ reject xs c) ≡ pre ++ xs
-unfolding reject marks marks-back
+pub reject-back : (pre xs : List Cell) (c i : ℕ) → length pre ≡ i → marks-back (goes-rejected c) (marks-of xs c i) (pre ++ reject xs c) ≡ pre ++ xs
+unfolding reject marks-of marks-back
 reject-back pre [] c i e = refl
 reject-back pre (x ∷ xs) c i e =
-    step-back (goes-rejected c) (eqb (x .put-in) (suc c) || eqb (x .struck) (suc c)) pre xs (reject xs c) _ x _ i (marks xs c (suc i)) e refl
+    step-back (goes-rejected c) (eqb (x .put-in) (suc c) || eqb (x .struck) (suc c)) pre xs (reject xs c) _ x _ i (marks-of xs c (suc i)) e refl
     (λ t. let o = or-parts (eqb (x .put-in) (suc c)) (eqb (x .struck) (suc c)) t in rw (o .0, o .1)) (reject-back (pre ++ (x ∷ [])) xs c (suc i) (suc-push pre x i e))
 
-pub length-marks : (xs : List Cell) (c i : ℕ) → length (marks xs c i) ≡ touched xs c
-unfolding marks touched
+pub length-marks : (xs : List Cell) (c i : ℕ) → length (marks-of xs c i) ≡ touched xs c
+unfolding marks-of touched
 length-marks [] c i = refl
 length-marks (x ∷ xs) c i =
     let m : Mark = record { place = i; cell = x } in
-    let ms : List Mark = marks xs c (suc i) in
+    let ms : List Mark = marks-of xs c (suc i) in
     let ih : length ms ≡ touched xs c = length-marks xs c (suc i) in
     elim (eqb (x .put-in) (suc c) || eqb (x .struck) (suc c)) as (λ b. length (pick b (m ∷ ms) ms) ≡ pick {A = ℕ} b 1 0 + touched xs c)
     [ true ↦ omega arith | false ↦ omega arith ]
@@ -177,8 +177,8 @@ call-of-entry p (save i n) h = absurd h
 pub redo-does-again : Redo-does-again
 redo-does-again p c h = ap (rewritten p) (call-of-entry p c h)
 
-pub much-of-entry : (p : Paper) (c : Call) → Can p c → much (entry-of p c) ≡ how-much p c
-unfolding entry-of much how-much Can
+pub much-of-entry : (p : Paper) (c : Call) → Can p c → much-of (entry-of p c) ≡ how-much p c
+unfolding entry-of much-of how-much Can
 much-of-entry p (put a i s ls) h = refl
 much-of-entry p (strikes a i n) h = length-old (p .cells) i n h
 much-of-entry p (accepts c) h = length-marks (p .cells) c 0
@@ -211,18 +211,18 @@ module _ (went : Cell → Bool) (x y : Cell) (ys zs : List Cell) (i : ℕ) (ms :
   placed-step true f g ih = placed-one (went x) f ih
   placed-step false f g ih = let n : length zs ≡ suc (length ys) = ap length (g refl) in placed-at _ _ (omega arith) ih
 
-placed-accept : (xs : List Cell) (c i : ℕ) → Placed (goes-accepted c) (marks xs c i) (i + length (accept xs c))
-unfolding accept marks Placed
+placed-accept : (xs : List Cell) (c i : ℕ) → Placed (goes-accepted c) (marks-of xs c i) (i + length (accept xs c))
+unfolding accept marks-of Placed
 placed-accept [] c i = tt
 placed-accept (x ∷ xs) c i =
-    placed-step (goes-accepted c) x _ (accept xs c) _ i (marks xs c (suc i)) (eqb (x .put-in) (suc c) || eqb (x .struck) (suc c)) refl
+    placed-step (goes-accepted c) x _ (accept xs c) _ i (marks-of xs c (suc i)) (eqb (x .put-in) (suc c) || eqb (x .struck) (suc c)) refl
     (λ t. let o = or-parts (eqb (x .put-in) (suc c)) (eqb (x .struck) (suc c)) t in rw (o .0, o .1)) (placed-accept xs c (suc i))
 
-placed-reject : (xs : List Cell) (c i : ℕ) → Placed (goes-rejected c) (marks xs c i) (i + length (reject xs c))
-unfolding reject marks Placed
+placed-reject : (xs : List Cell) (c i : ℕ) → Placed (goes-rejected c) (marks-of xs c i) (i + length (reject xs c))
+unfolding reject marks-of Placed
 placed-reject [] c i = tt
 placed-reject (x ∷ xs) c i =
-    placed-step (goes-rejected c) x _ (reject xs c) _ i (marks xs c (suc i)) (eqb (x .put-in) (suc c) || eqb (x .struck) (suc c)) refl
+    placed-step (goes-rejected c) x _ (reject xs c) _ i (marks-of xs c (suc i)) (eqb (x .put-in) (suc c) || eqb (x .struck) (suc c)) refl
     (λ t. let o = or-parts (eqb (x .put-in) (suc c)) (eqb (x .struck) (suc c)) t in rw (o .0, o .1)) (placed-reject xs c (suc i))
 
 -- as many stay as are there
@@ -261,8 +261,8 @@ undo-finds p (strikes a i n) h =
     let m = length-front (p .cells) ys i (omega arith) in
     let k = length-strike (drop i (p .cells)) n (p .changes) a (length (p .changes)) in
     (omega arith, omega (arith, length-push (p .changes) (record { author = a; became = 0 })))
-undo-finds p (accepts c) h = (subst (Placed (goes-accepted c) (marks (p .cells) c 0)) (zero-add _) (placed-accept (p .cells) c 0), simp length-set (h .0))
-undo-finds p (rejects c) h = (subst (Placed (goes-rejected c) (marks (p .cells) c 0)) (zero-add _) (placed-reject (p .cells) c 0), simp length-set (h .0))
+undo-finds p (accepts c) h = (subst (Placed (goes-accepted c) (marks-of (p .cells) c 0)) (zero-add _) (placed-accept (p .cells) c 0), simp length-set (h .0))
+undo-finds p (rejects c) h = (subst (Placed (goes-rejected c) (marks-of (p .cells) c 0)) (zero-add _) (placed-reject (p .cells) c 0), simp length-set (h .0))
 undo-finds p (styles i n s) h =
     let ys : List Cell = styled (drop i (p .cells)) n s in
     let m = length-front (p .cells) ys i (omega arith) in

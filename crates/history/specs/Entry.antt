@@ -7,7 +7,7 @@ use Prim.Native.Nat.{ℕ, suc, _+_, _-_, _≤_, _<_}
 use lib.Dec.{eqb}
 use lib.ListN.{length, set, take, drop}
 use Rattle.model.specs.Paper.{pick, Cell, Change, Paper, author-of}
-use Rattle.model.specs.Calls.{Call, put, strikes, accepts, rejects, styles, undo, redo, show, find, count, change, save, became, with-became, rewritten, how-much, writes}
+use Rattle.model.specs.Calls.{Call, put, strikes, accepts, rejects, styles, undo, redo, show, find, count, change, save, became, with-became, rewritten, how-much}
 
 -- a cell as it was, with the place where it stood
 pub record Mark : Type 0 where
@@ -30,17 +30,17 @@ staying [] cs a = 0
 staying (x ∷ xs) cs a = pick (eqb (author-of cs (x .put-in)) (suc a)) 0 1 + staying xs cs a
 
 -- the cells that have the mark of change number c; i is the place of the first cell
-unfoldable pub marks : List Cell → ℕ → ℕ → List Mark
-marks [] c i = []
-marks (x ∷ xs) c i =
-    pick (eqb (x .put-in) (suc c) || eqb (x .struck) (suc c)) (record { place = i; cell = x } ∷ marks xs c (suc i)) (marks xs c (suc i))
+unfoldable pub marks-of : List Cell → ℕ → ℕ → List Mark
+marks-of [] c i = []
+marks-of (x ∷ xs) c i =
+    pick (eqb (x .put-in) (suc c) || eqb (x .struck) (suc c)) (record { place = i; cell = x } ∷ marks-of xs c (suc i)) (marks-of xs c (suc i))
 
 -- What is kept of a call, from the paper before it. Of a call that does not write nothing is kept; an entry that changes nothing stands for that.
 unfoldable pub entry-of : Paper → Call → Entry
 entry-of p (put a i s ls) = was-put a i s ls
 entry-of p (strikes a i n) = was-struck a i (staying (take n (drop i (p .cells))) (p .changes) a) (take n (drop i (p .cells)))
-entry-of p (accepts c) = was-accepted c (marks (p .cells) c 0)
-entry-of p (rejects c) = was-rejected c (marks (p .cells) c 0)
+entry-of p (accepts c) = was-accepted c (marks-of (p .cells) c 0)
+entry-of p (rejects c) = was-rejected c (marks-of (p .cells) c 0)
 entry-of p (styles i n s) = was-styled i s (take n (drop i (p .cells)))
 entry-of p undo = was-styled 0 0 []
 entry-of p redo = was-styled 0 0 []
@@ -59,15 +59,15 @@ call-of (was-rejected c ms) = rejects c
 call-of (was-styled i s old) = styles i (length old) s
 
 -- how many cells it was about, and what it counts
-unfoldable pub much : Entry → ℕ
-much (was-put a i s ls) = length ls
-much (was-struck a i k old) = length old
-much (was-accepted c ms) = length ms
-much (was-rejected c ms) = length ms
-much (was-styled i s old) = length old
+unfoldable pub much-of : Entry → ℕ
+much-of (was-put a i s ls) = length ls
+much-of (was-struck a i k old) = length old
+much-of (was-accepted c ms) = length ms
+much-of (was-rejected c ms) = length ms
+much-of (was-styled i s old) = length old
 
 abbrev pub counts : Entry → ℕ
-counts e = suc (much e)
+counts e = suc (much-of e)
 
 -- a run of cells: in place of the k cells at i, the old ones
 unfoldable pub run-back : ℕ → ℕ → List Cell → List Cell → List Cell

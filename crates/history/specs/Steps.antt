@@ -1,22 +1,22 @@
 -- The entries that can be undone and done again, and the desk that they stand for. Definitions and statements only: nothing is assumed.
 use mathlib.Core.Path.{_≡_}
-use mathlib.Core.Bool.{true, false}
+use mathlib.Core.Bool.{true}
 use mathlib.Core.List.{List, [], _∷_, _++_}
 use Prim.Native.Nat.{ℕ, _+_, _-_, _≤_, _<_}
 use lib.Dec.{leb, eqb}
 use lib.ListN.{length}
 use Rattle.model.specs.Paper.{pick, Paper}
 use Rattle.model.specs.Calls.{Call, undo, redo, number, Before, Desk, Limits, call-number, writes, rewritten, remembered, fits, turned, after, told, ran, new-desk}
-use Rattle.history.specs.Entry.{Entry, counts, much, call-of, entry-of, undo-of, redo-of}
+use Rattle.history.specs.Entry.{Entry, counts, much-of, call-of, entry-of, undo-of, redo-of}
 
 -- the papers that undo brings back, and those that redo brings back, from the paper p and the entries on either side of it
 unfoldable pub past-of : List Entry → Paper → List Before
 past-of [] p = []
-past-of (e ∷ es) p = record { paper = undo-of e p; much = much e } ∷ past-of es (undo-of e p)
+past-of (e ∷ es) p = record { paper = undo-of e p; much = much-of e } ∷ past-of es (undo-of e p)
 
 unfoldable pub future-of : List Entry → Paper → List Before
 future-of [] p = []
-future-of (e ∷ es) p = record { paper = redo-of e p; much = much e } ∷ future-of es (redo-of e p)
+future-of (e ∷ es) p = record { paper = redo-of e p; much = much-of e } ∷ future-of es (redo-of e p)
 
 -- A paper, what can be undone from it (the latest first) and what can be done again (the last undone first), as a desk.
 abbrev pub desk-of : Paper → List Entry → List Entry → Desk

@@ -1,7 +1,7 @@
 -- Entries in words, and a log of them. Definitions and statements only: nothing is assumed.
 use mathlib.Core.Path.{_≡_}
 use mathlib.Core.List.{List, [], _∷_, _++_}
-use Prim.Native.Nat.{ℕ, zero, suc, _+_, _-_, _*_, _≤_, _<_}
+use Prim.Native.Nat.{ℕ, zero, suc, _+_, _-_, _*_, _≤_}
 use lib.Dec.{eqb}
 use lib.ListN.{length, getD, take, drop}
 use Rattle.std.specs.Holes.{between}
@@ -23,19 +23,19 @@ head-words (was-rejected c ms) = 3 ∷ (c ∷ (0 ∷ (0 ∷ (0 ∷ []))))
 head-words (was-styled i s old) = 4 ∷ (0 ∷ (i ∷ (length old ∷ (s ∷ []))))
 
 -- letters, old cells or marks
-unfoldable pub payload : Entry → List ℕ
-payload (was-put a i s ls) = ls
-payload (was-struck a i k old) = cells-written old
-payload (was-accepted c ms) = marks-written ms
-payload (was-rejected c ms) = marks-written ms
-payload (was-styled i s old) = cells-written old
+unfoldable pub payload-words : Entry → List ℕ
+payload-words (was-put a i s ls) = ls
+payload-words (was-struck a i k old) = cells-written old
+payload-words (was-accepted c ms) = marks-written ms
+payload-words (was-rejected c ms) = marks-written ms
+payload-words (was-styled i s old) = cells-written old
 
-abbrev pub size : Entry → ℕ
-size e = 8 + length (payload e)
+abbrev pub entry-size : Entry → ℕ
+entry-size e = 8 + length (payload-words e)
 
 -- the words of an entry: its size, what it counts, head, payload, and its size again
 unfoldable pub entry-words : Entry → List ℕ
-entry-words e = size e ∷ (counts e ∷ (head-words e ++ (payload e ++ (size e ∷ []))))
+entry-words e = entry-size e ∷ (counts e ∷ (head-words e ++ (payload-words e ++ (entry-size e ∷ []))))
 
 -- n cells, and n marks, at the beginning of these words
 unfoldable pub cells-read : ℕ → List ℕ → List Cell
@@ -76,10 +76,10 @@ pub record Logged (ws : List ℕ) (start cursor end : ℕ) (back ahead : List En
 
 -- an entry that stands in the words ws from place a on
 pub record Entry-at (ws : List ℕ) (a : ℕ) (e : Entry) : Type 0 where
-  pub words : between a (a + size e) ws ≡ entry-words e
-  pub size-word : getD ws a 0 ≡ size e
+  pub words : between a (a + entry-size e) ws ≡ entry-words e
+  pub size-word : getD ws a 0 ≡ entry-size e
   pub count-word : getD ws (a + 1) 0 ≡ counts e
-  pub last-word : getD ws (a + size e - 1) 0 ≡ size e
+  pub last-word : getD ws (a + entry-size e - 1) 0 ≡ entry-size e
   pub reads : read-entry (drop a ws) ≡ e
 
 -- An entry is read back from its words, whatever comes after them; so two entries with the same words are one.
@@ -91,7 +91,7 @@ abbrev pub One-entry : Type 0
 One-entry = (e f : Entry) → entry-words e ≡ entry-words f → e ≡ f
 
 abbrev pub Entry-long : Type 0
-Entry-long = (e : Entry) → (length (entry-words e) ≡ size e) × (size e ≤ 8 * counts e)
+Entry-long = (e : Entry) → (length (entry-words e) ≡ entry-size e) × (entry-size e ≤ 8 * counts e)
 
 -- a log takes at most 8 words for each that its entries count, and has entries behind the cursor just if it has words there; likewise ahead
 abbrev pub Log-long : Type 0
@@ -110,18 +110,18 @@ One-log =
 abbrev pub Log-back : Type 0
 Log-back =
     (ws : List ℕ) (s c t : ℕ) (e : Entry) (back ahead : List Entry) → Logged ws s c t (e ∷ back) ahead →
-    (getD ws (c - 1) 0 ≡ size e) × (s + size e ≤ c) × Entry-at ws (c - size e) e × Logged ws s (c - size e) t back (e ∷ ahead)
+    (getD ws (c - 1) 0 ≡ entry-size e) × (s + entry-size e ≤ c) × Entry-at ws (c - entry-size e) e × Logged ws s (c - entry-size e) t back (e ∷ ahead)
 
 abbrev pub Log-ahead : Type 0
 Log-ahead =
     (ws : List ℕ) (s c t : ℕ) (e : Entry) (back ahead : List Entry) → Logged ws s c t back (e ∷ ahead) →
-    (c + size e ≤ t) × Entry-at ws c e × Logged ws s (c + size e) t (e ∷ back) ahead
+    (c + entry-size e ≤ t) × Entry-at ws c e × Logged ws s (c + entry-size e) t (e ∷ back) ahead
 
 -- the oldest is forgotten, which stands at the start
 abbrev pub Log-forgets : Type 0
 Log-forgets =
     (ws : List ℕ) (s c t : ℕ) (e : Entry) (back ahead : List Entry) → Logged ws s c t (back ++ (e ∷ [])) ahead →
-    (s + size e ≤ c) × Entry-at ws s e × Logged ws (s + size e) c t back ahead
+    (s + entry-size e ≤ c) × Entry-at ws s e × Logged ws (s + entry-size e) c t back ahead
 
 -- what could be done again is dropped, and an entry is pushed: only the words from the cursor on may change
 abbrev pub Log-drops : Type 0
@@ -130,7 +130,7 @@ Log-drops = (ws : List ℕ) (s c t : ℕ) (back ahead : List Entry) → Logged w
 abbrev pub Log-pushes : Type 0
 Log-pushes =
     (ws new : List ℕ) (s c : ℕ) (e : Entry) (back : List Entry) → Logged ws s c c back [] → take c new ≡ take c ws →
-    between c (c + size e) new ≡ entry-words e → c + size e ≤ length new → Logged new s (c + size e) (c + size e) (e ∷ back) []
+    between c (c + entry-size e) new ≡ entry-words e → c + entry-size e ≤ length new → Logged new s (c + entry-size e) (c + entry-size e) (e ∷ back) []
 
 -- the log is moved to the front
 abbrev pub Log-moves : Type 0
