@@ -1,3 +1,4 @@
 pub mod Undoing
 pub mod Stepping
 pub mod Logging
+pub mod Keeping

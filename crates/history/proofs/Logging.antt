@@ -202,14 +202,19 @@ log-pushes ws new s c e back h same words room =
     between-join new s c j (h .begun) (omega arith) ∙ ap (λ xs. xs ++ between c j new) old ∙ ap (λ xs. back-words back ++ xs) words in
     record { behind = behind; before = between-none new j; begun = omega arith; ended = omega arith; inside = room }
 
-pub log-moves : Log-moves
-log-moves ws new s c t back ahead h same room =
-    let whole : between 0 (t - s) new ≡ back-words back ++ ahead-words ahead =
+-- moved so that it starts at p
+pub log-moves-to :
+    (ws new : List ℕ) (s c t p i j : ℕ) (back ahead : List Entry) → Logged ws s c t back ahead → i ≡ p + (c - s) → j ≡ p + (t - s) →
+    between p j new ≡ between s t ws → j ≤ length new → Logged new p i j back ahead
+log-moves-to ws new s c t p i j back ahead h at-i at-j same room =
+    let whole : between p j new ≡ back-words back ++ ahead-words ahead =
     same ∙ between-join ws s c t (h .begun) (h .ended) ∙ ap (λ xs. xs ++ between c t ws) (h .behind) ∙ ap (λ xs. back-words back ++ xs) (h .before) in
     let n : length (back-words back) ≡ c - s = ap length (sym (h .behind)) ∙ length-between ws s c (omega arith) in
-    let f : Falls new 0 (c - s) (t - s) (back-words back) (ahead-words ahead) =
-    falls new 0 (c - s) (t - s) (back-words back) (ahead-words ahead) (omega arith) room whole (omega arith) in
+    let f : Falls new p i j (back-words back) (ahead-words ahead) = falls new p i j (back-words back) (ahead-words ahead) (omega arith) room whole (omega arith) in
     record { behind = f .first; before = f .second; begun = omega arith; ended = f .reach; inside = room }
+
+pub log-moves : Log-moves
+log-moves ws new s c t back ahead h same room = log-moves-to ws new s c t 0 (c - s) (t - s) back ahead h (omega arith) (omega arith) same room
 
 -- how many words entries take
 back-long : (es : List Entry) → (length (back-words es) ≤ 8 * all-count es) × (8 * length es ≤ length (back-words es))
