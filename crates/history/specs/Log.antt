@@ -63,3 +63,66 @@ Steps-back u new a =
 abbrev pub Steps-ahead : List ℕ → List ℕ → ℕ → Type 0
 Steps-ahead u new a =
     (limit : ℕ) (e : Entry) (back ahead : List Entry) → Log u limit back (e ∷ ahead) → Log new limit (e ∷ back) ahead × Entry-at u a e
+
+-- what could be done again is dropped; the oldest entry is forgotten, and the oldest until those behind count at most so much; the log stays
+abbrev pub Drops : List ℕ → List ℕ → Type 0
+Drops u new = (limit : ℕ) (back ahead : List Entry) → Log u limit back ahead → Log new limit back []
+
+abbrev pub Forgets-oldest : List ℕ → List ℕ → Type 0
+Forgets-oldest u new = (limit : ℕ) (e : Entry) (back ahead : List Entry) → Log u limit (back ++ (e ∷ [])) ahead → Log new limit back ahead
+
+abbrev pub Forgets : List ℕ → List ℕ → ℕ → Type 0
+Forgets u new most = (limit : ℕ) (back ahead : List Entry) → Log u limit back ahead → Log new limit (kept most back) ahead
+
+abbrev pub Stays : List ℕ → List ℕ → Type 0
+Stays u new = (limit : ℕ) (back ahead : List Entry) → Log u limit back ahead → Log new limit back ahead
+
+-- room for an entry that counts so much: nothing is ahead, and from a on 8 words are free for each that it counts
+pub record Room (u : List ℕ) (limit count a : ℕ) : Type 0 where
+  pub cursor : a ≡ cursor-of u
+  pub end : a ≡ end-of u
+  pub none-ahead : getD u 4 0 ≡ 0
+  pub free : a + 8 * count ≤ 16 + 16 * limit
+  pub within : getD u 5 0 + count ≤ limit
+
+-- there is room, the oldest being forgotten; or the entry counts more than the limit, and all is forgotten
+pub record Roomed (u new : List ℕ) (limit count a : ℕ) : Type 0 where
+  pub fits : count ≤ limit
+  pub room : Room new limit count a
+  pub log : (back ahead : List Entry) → Log u limit back ahead → Log new limit (kept (limit - count) back) []
+
+pub record Emptied (u new : List ℕ) (limit count : ℕ) : Type 0 where
+  pub over : limit < count
+  pub log : (back ahead : List Entry) → Log u limit back ahead → Log new limit [] []
+
+abbrev pub Makes-room : List ℕ → List ℕ → ℕ → ℕ → Option ℕ → Type 0
+Makes-room u new limit count (Some a) = Roomed u new limit count a
+Makes-room u new limit count None = Emptied u new limit count
+
+-- an entry of so many words, that counts so much, can be pushed
+pub record Can-push (u : List ℕ) (size count : ℕ) : Type 0 where
+  pub limit : ℕ
+  pub keeps : Keeps u limit
+  pub none-ahead : getD u 4 0 ≡ 0
+  pub room : cursor-of u + size ≤ 16 + 16 * limit
+  pub within : getD u 5 0 + count ≤ limit
+
+-- the entry e whose words stand at the cursor becomes the latest
+abbrev pub Pushes : List ℕ → List ℕ → ℕ → ℕ → Type 0
+Pushes u new size count =
+    (limit : ℕ) (e : Entry) (back : List Entry) → Log u limit back [] → between (cursor-of u) (cursor-of u + size) u ≡ entry-words e →
+    size ≡ entry-size e → count ≡ counts e → cursor-of u + size ≤ 16 + 16 * limit → all-count back + count ≤ limit → Log new limit (e ∷ back) []
+
+-- Whoever writes only from the end on keeps the log and the room.
+abbrev pub Written-keeps : Type 0
+Written-keeps =
+    (u new : List ℕ) (limit : ℕ) (back ahead : List Entry) → Log u limit back ahead → take (end-of u) new ≡ take (end-of u) u → length new ≡ length u →
+    Log new limit back ahead
+
+abbrev pub Written-keeps-room : Type 0
+Written-keeps-room = (u new : List ℕ) (limit count a : ℕ) → Room u limit count a → take a new ≡ take a u → Room new limit count a
+
+-- and where there is room, an entry that is written there can be pushed
+abbrev pub Room-pushes : Type 0
+Room-pushes =
+    (u : List ℕ) (limit count a : ℕ) (e : Entry) → Keeps u limit → Room u limit count a → count ≡ counts e → Can-push u (entry-size e) count
