@@ -49,12 +49,12 @@ pub one-entry : One-entry
 one-entry e f h = sym (reads-back e []) ∙ ap (λ ws. read-entry (ws ++ [])) h ∙ reads-back f []
 
 -- Lengths.
-length-cells-written : (xs : List Cell) → length (cells-written xs) ≡ 4 * length xs
+pub length-cells-written : (xs : List Cell) → length (cells-written xs) ≡ 4 * length xs
 unfolding cells-written
 length-cells-written [] = refl
 length-cells-written (x ∷ xs) = omega (arith, length-cells-written xs)
 
-length-marks-written : (ms : List Mark) → length (marks-written ms) ≡ 5 * length ms
+pub length-marks-written : (ms : List Mark) → length (marks-written ms) ≡ 5 * length ms
 unfolding marks-written
 length-marks-written [] = refl
 length-marks-written (m ∷ ms) = omega (arith, length-marks-written ms)
@@ -67,7 +67,7 @@ length-payload (was-accepted c ms) = omega (arith, length-marks-written ms)
 length-payload (was-rejected c ms) = omega (arith, length-marks-written ms)
 length-payload (was-styled i s old) = omega (arith, length-cells-written old)
 
-length-head : (e : Entry) → length (head-words e) ≡ 5
+pub length-head : (e : Entry) → length (head-words e) ≡ 5
 unfolding head-words
 length-head (was-put a i s ls) = refl
 length-head (was-struck a i k old) = refl
@@ -100,7 +100,7 @@ entry-last e =
     ap (λ ws. getD ws (entry-size e - 1) 0) same ∙ getD-push front (entry-size e) 0 (entry-size e - 1) n
 
 -- Parts of a list of words, from one place to another.
-between-join : (ws : List ℕ) (i j k : ℕ) → i ≤ j → j ≤ k → between i k ws ≡ between i j ws ++ between j k ws
+pub between-join : (ws : List ℕ) (i j k : ℕ) → i ≤ j → j ≤ k → between i k ws ≡ between i j ws ++ between j k ws
 between-join ws i j k a b =
     let n : k - i ≡ (j - i) + (k - j) = omega arith in
     let m : i + (j - i) ≡ j = omega arith in
@@ -127,7 +127,7 @@ falls ws i j k xs ys a b h e =
     }
 
 -- an entry that stands in words
-there : (ws : List ℕ) (a : ℕ) (e : Entry) → between a (a + entry-size e) ws ≡ entry-words e → Entry-at ws a e
+pub there : (ws : List ℕ) (a : ℕ) (e : Entry) → between a (a + entry-size e) ws ≡ entry-words e → Entry-at ws a e
 there ws a e h =
     let at : (k : ℕ) → k < entry-size e → getD ws (a + k) 0 ≡ getD (entry-words e) k 0 =
     λ k b. sym (getD-between ws a (a + entry-size e) k 0 (omega arith)) ∙ ap (λ xs. getD xs k 0) h in

@@ -3,6 +3,7 @@ ghost use Rattle.history.specs.Entry.{Undo-brings-back, Redo-does-again, Count
 ghost use Rattle.history.specs.Steps.{Kept-remembered, Kept-within, Kept-all, Kept-forgets, Opens, Write-steps, Undo-steps, Redo-steps, Undo-turned, Redo-turned, Turned-keeps, Looking-keeps, Always-stands};
 ghost use Rattle.history.specs.Words.{Reads-back, One-entry, Entry-long, Log-long, One-log, Log-back, Log-ahead, Log-forgets, Log-drops, Log-pushes, Log-moves};
 
+pub mod entry;
 pub mod log;
 
 // An entry brings back the paper before its call, does the call again, and counts one and the cells that the call was about.
