@@ -1,21 +1,19 @@
 -- That an entry is written and read by its head, and where its letters, cells and marks stand.
 use mathlib.Core.Path.{_≡_, refl, sym, ap, subst, _∙_}
 use mathlib.Core.List.{List, [], _∷_, _++_}
-use mathlib.Core.Logic.{_≢_}
 use Prim.Native.Nat.{ℕ, zero, suc, _+_, _-_, _*_, _≤_, _<_}
 use native.Mathlib.Omega.{arith}
 use lib.ListN.{length, getD, set, take, drop}
 use Rattle.std.specs.Holes.{between}
-use Rattle.std.proofs.shelf.Lists.{append-assoc, length-append, length-set, length-take-le, length-drop, take-at, drop-at, take-take, take-set-le, drop-set-lt, take-append-le, getD-set-same, drop-more, drop-drop, drop-take}
-use Rattle.std.proofs.shelf.Edits.{sets-eq, getD-between, between-more, length-between, between-none}
-use Rattle.std.proofs.shelf.Parts.{between-is}
+use Rattle.std.proofs.shelf.Lists.{append-assoc, length-set, length-take-le, take-at, drop-at, take-take, take-set-le, drop-set-lt, getD-set-same, drop-more, drop-drop, drop-take}
+use Rattle.std.proofs.shelf.Edits.{sets-eq, getD-between, between-more, between-none}
 use Rattle.model.specs.Paper.{Cell, cells-written}
-use Rattle.history.specs.Entry.{Mark, Entry, was-put, was-struck, was-accepted, was-rejected, was-styled, much-of, counts}
-use Rattle.history.specs.Words.{marks-written, head-words, payload-words, entry-size, entry-words, Entry-at}
-use Rattle.history.specs.Head.{kind-number, kind-at, head-of, head-list, head-at, Head-reads, Written, Entry-written, Entry-stands, Payload-stands, Letter-stands, Cell-at, Mark-at, Cells-stand, Marks-stand, Cells-make, Marks-make, Written-long}
+use Rattle.history.specs.Entry.{Mark, Entry, was-put, was-struck, was-accepted, was-rejected, was-styled}
+use Rattle.history.specs.Words.{marks-written, head-words, payload-words, entry-size, entry-words}
+use Rattle.history.specs.Head.{kind-number, kind-at, head-of, head-list, head-at, Head-reads, Entry-written, Entry-stands, Payload-stands, Letter-stands, Cell-at, Mark-at, Cells-stand, Marks-stand, Cells-make, Marks-make, Written-long}
 use Rattle.history.specs.declared.entry.Head.{Head}
 use Rattle.history.specs.declared.entry.Kind.{Kind}
-use Rattle.history.proofs.Logging.{there, between-join, length-entry, length-head, length-cells-written, length-marks-written}
+use Rattle.history.proofs.Logging.{there, between-join, between-below, length-cells-written, length-marks-written}
 
 -- seven words in a row
 seven-set :
@@ -91,12 +89,6 @@ head-reads ws a e h =
 pub entry-stands : Entry-stands
 entry-stands ws a e h = there ws a e h
 
--- a part of what stayed
-between-took : (u new : List ℕ) (n i j : ℕ) → j ≤ n → take n new ≡ take n u → between i j new ≡ between i j u
-between-took u new n i j b h =
-    let t : take j new ≡ take j u = sym (take-take j n new b) ∙ ap (take j) h ∙ take-take j n u b in
-    between-is new i j ∙ ap (drop i) t ∙ sym (between-is u i j)
-
 pub entry-written : Entry-written
 entry-written u v w new a e room is-v same payload long is =
     let n : ℕ = length (payload-words e) in
@@ -109,8 +101,8 @@ entry-written u v w new a e room is-v same payload long is =
     ap (λ x. take x (drop a v)) m7 ∙ ap (λ xs. take 7 (drop a xs)) is-v ∙ ap (take 7) (drop-at (take a u) (head ++ rest) a front) ∙ take-at head rest 7 refl in
     let kept : take p new ≡ take p w = ap (take p) is ∙ take-set-le p w p (entry-size e) (omega arith) in
     let kept7 : take (a + 7) new ≡ take (a + 7) w = ap (take (a + 7)) is ∙ take-set-le (a + 7) w p (entry-size e) (omega arith) in
-    let first : between a (a + 7) new ≡ head = between-took v new (a + 7) a (a + 7) (omega arith) (kept7 ∙ same) ∙ at-v in
-    let second : between (a + 7) (a + 7 + n) new ≡ payload-words e = between-took w new p (a + 7) (a + 7 + n) (omega arith) kept ∙ payload in
+    let first : between a (a + 7) new ≡ head = between-below v new (a + 7) a (a + 7) (omega arith) (kept7 ∙ same) ∙ at-v in
+    let second : between (a + 7) (a + 7 + n) new ≡ payload-words e = between-below w new p (a + 7) (a + 7 + n) (omega arith) kept ∙ payload in
     let pl : p < length w = omega arith in
     let word : getD new p 0 ≡ entry-size e = ap (λ xs. getD xs p 0) is ∙ getD-set-same w p (entry-size e) 0 pl in
     let long-new : length new ≡ length w = ap length is ∙ length-set w p (entry-size e) in
@@ -124,12 +116,12 @@ entry-written u v w new a e room is-v same payload long is =
     ∙ ap (λ xs. payload-words e ++ xs) third in
     record {
       words =
-        between-join new a (a + 7) (a + entry-size e) (omega arith) (omega arith) ∙ ap (λ xs. xs ++ between (a + 7) (a + entry-size e) new) first
-        ∙ ap (λ xs. head ++ xs) joined ∙ sym (by-head e);
+          between-join new a (a + 7) (a + entry-size e) (omega arith) (omega arith) ∙ ap (λ xs. xs ++ between (a + 7) (a + entry-size e) new) first
+          ∙ ap (λ xs. head ++ xs) joined ∙ sym (by-head e);
       before =
-        ap (take a) is ∙ take-set-le a w p (entry-size e) (omega arith)
-        ∙ sym (take-take a (a + 7) w (omega arith)) ∙ ap (take a) same ∙ take-take a (a + 7) v (omega arith)
-        ∙ ap (take a) is-v ∙ take-at (take a u) (head ++ rest) a front;
+          ap (take a) is ∙ take-set-le a w p (entry-size e) (omega arith)
+          ∙ sym (take-take a (a + 7) w (omega arith)) ∙ ap (take a) same ∙ take-take a (a + 7) v (omega arith)
+          ∙ ap (take a) is-v ∙ take-at (take a u) (head ++ rest) a front;
       after = ap (drop (a + entry-size e)) is ∙ drop-set-lt (a + entry-size e) w p (entry-size e) (omega arith);
       long = long-new ∙ long;
     }
@@ -217,12 +209,12 @@ mark-there (m ∷ ms) (suc k) d h =
     record {
       place = ap (λ n. getD ws n 0) e0 ∙ r .place;
       cell =
-        record {
-          letter = ap (λ n. getD ws n 0) e1 ∙ r .cell .letter;
-          style = ap (λ n. getD ws n 0) e2 ∙ r .cell .style;
-          put-in = ap (λ n. getD ws n 0) e3 ∙ r .cell .put-in;
-          struck = ap (λ n. getD ws n 0) e4 ∙ r .cell .struck;
-        };
+          record {
+            letter = ap (λ n. getD ws n 0) e1 ∙ r .cell .letter;
+            style = ap (λ n. getD ws n 0) e2 ∙ r .cell .style;
+            put-in = ap (λ n. getD ws n 0) e3 ∙ r .cell .put-in;
+            struck = ap (λ n. getD ws n 0) e4 ∙ r .cell .struck;
+          };
     }
 
 pub marks-stand : Marks-stand

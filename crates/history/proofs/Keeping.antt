@@ -1,24 +1,23 @@
 -- How the words and the numbers of a log follow what its functions do.
 use mathlib.Core.Path.{_≡_, refl, sym, ap, subst, _∙_}
 use mathlib.Core.List.{List, [], _∷_, _++_}
-use Prim.Native.Nat.{ℕ, suc, _+_, _-_, _*_, _≤_, _<_}
+use Prim.Native.Nat.{ℕ, _+_, _-_, _*_, _≤_, _<_}
 use native.Mathlib.Omega.{arith}
 use lib.ListN.{length, getD, take, drop, replicate}
 use Rattle.std.specs.Holes.{between}
-use Rattle.std.proofs.shelf.Lists.{append-assoc, length-append, drop-drop, length-take-le, length-drop, take-at, drop-at, getD-append-left, getD-replicate, length-replicate, getD-take, take-take}
+use Rattle.std.proofs.shelf.Lists.{append-assoc, length-append, drop-drop, length-take-le, length-drop, take-at, drop-at, getD-append-left, getD-replicate, length-replicate, getD-take}
 use Rattle.std.proofs.shelf.Edits.{between-none}
-use Rattle.std.proofs.shelf.Parts.{between-is}
 use lib.Seq.{paste}
-use Rattle.history.specs.Entry.{Entry, much-of, counts}
+use Rattle.history.specs.Entry.{Entry, counts}
 use Rattle.history.specs.Steps.{all-count, kept}
 use Rattle.history.specs.Words.{back-words, ahead-words, entry-size, entry-words, Logged, Entry-at}
 use Rattle.history.specs.Log.{start-of, cursor-of, end-of, Log, Keeps, Some-log, Headed, Steps-back, Steps-ahead, Drops, Forgets-oldest, Forgets, Stays, Room, Roomed, Emptied, Can-push, Pushes, Written-keeps, Written-keeps-room, Room-pushes}
 use Rattle.history.specs.declared.log.State.{State}
-use Rattle.history.proofs.Logging.{log-back, log-ahead, log-forgets, log-drops, log-pushes, log-moves-to, log-long, entry-long}
+use Rattle.history.proofs.Logging.{log-back, log-ahead, log-forgets, log-drops, log-pushes, log-moves-to, log-long, entry-long, between-below}
 use Rattle.history.proofs.Stepping.{oldest, all-count-push, kept-within, kept-all, kept-forgets}
 
 -- Words from place k on that stayed as they were keep what stands there.
-from-on : (u new : List ℕ) (k i : ℕ) → k ≤ i → drop k new ≡ drop k u → drop i new ≡ drop i u
+pub from-on : (u new : List ℕ) (k i : ℕ) → k ≤ i → drop k new ≡ drop k u → drop i new ≡ drop i u
 from-on u new k i b h =
     let m : k + (i - k) ≡ i = omega arith in
     ap (λ x. drop x new) (sym m) ∙ sym (drop-drop (i - k) k new) ∙ ap (drop (i - k)) h ∙ drop-drop (i - k) k u ∙ ap (λ x. drop x u) m
@@ -119,8 +118,7 @@ pub stepped-back : (u new : List ℕ) (s : State) → Headed u s → Headed new 
 unfolding all-count
 stepped-back u new s k q same long limit e back ahead h =
     let b = back-entry u s limit e back ahead h k in
-    let n : back-count u s ≡ counts e = b .at .count-word in
-    (
+    let n : back-count u s ≡ counts e = b .at .count-word in (
       record {
         words = logged-new u new (s .start) (s .cursor - back-size u s) (s .end) back (e ∷ ahead) (b .moved) same long (q .start) (q .cursor) (q .end);
         room = omega arith;
@@ -198,8 +196,7 @@ pub stepped-ahead : (u new : List ℕ) (s : State) → Headed u s → Headed new
 unfolding all-count
 stepped-ahead u new s k q same long limit e back ahead h =
     let b = ahead-entry u s limit e back ahead h k in
-    let n : ahead-count u s ≡ counts e = b .at .count-word in
-    (
+    let n : ahead-count u s ≡ counts e = b .at .count-word in (
       record {
         words = logged-new u new (s .start) (s .cursor + ahead-size u s) (s .end) (e ∷ back) ahead (b .moved) same long (q .start) (q .cursor) (q .end);
         room = omega arith;
@@ -250,8 +247,8 @@ dropped u new s k q same long limit back ahead h =
     let ended : cursor-of u ≤ end-of u = h .words .ended in
     record {
       words =
-        logged-new u new (s .start) (s .cursor) (s .cursor) back []
-        (log-drops u (16 + s .start) (16 + s .cursor) (16 + s .end) back ahead (logged-now u s limit back ahead h k)) same long (q .start) (q .cursor) (q .end);
+          logged-new u new (s .start) (s .cursor) (s .cursor) back []
+          (log-drops u (16 + s .start) (16 + s .cursor) (16 + s .end) back ahead (logged-now u s limit back ahead h k)) same long (q .start) (q .cursor) (q .end);
       room = omega arith;
       many-back = omega arith;
       many-ahead = omega arith;
@@ -364,8 +361,7 @@ forgetting-more u new next most f over forgets same =
     let one : (limit : ℕ) (b ahead : List Entry) → Log new limit b ahead → (r : List Entry) × Log next limit r ahead × (kept most r ≡ kept most b) =
     λ limit b ahead l.
     let o = has-oldest b (omega arith) in
-    let count : all-count b ≡ all-count (o .front ++ (o .last ∷ [])) = ap all-count (o .is) in
-    (
+    let count : all-count b ≡ all-count (o .front ++ (o .last ∷ [])) = ap all-count (o .is) in (
       o .front,
       forgets limit (o .last) (o .front) ahead (subst (λ x. Log new limit x ahead) (o .is) l),
       sym (kept-forgets most (o .front) (o .last) (omega arith)) ∙ ap (kept most) (sym (o .is)),
@@ -431,8 +427,8 @@ module _ (u mid new : List ℕ) (s : State) (k : Headed u s) (a : s .start ≤ s
       front-words (omega arith) in
       record {
         words =
-          logged-at new 16 (16 + (s .cursor - s .start)) (16 + (s .end - s .start)) (start-of new) (cursor-of new) (end-of new) back ahead m
-          (omega arith) (omega arith) (omega arith);
+            logged-at new 16 (16 + (s .cursor - s .start)) (16 + (s .end - s .start)) (start-of new) (cursor-of new) (end-of new) back ahead m
+            (omega arith) (omega arith) (omega arith);
         room = omega arith;
         many-back = omega arith;
         many-ahead = omega arith;
@@ -494,9 +490,6 @@ pub roomed :
 roomed u a b new limit count at fits d f s r =
     record { fits = fits; room = r; log = λ back ahead h. s limit (kept (limit - count) back) [] (f limit back [] (d limit back ahead h)) }
 
-pub rest-kept : (u new : List ℕ) (k i : ℕ) → k ≤ i → drop k new ≡ drop k u → drop i new ≡ drop i u
-rest-kept = from-on
-
 -- An entry is pushed.
 abbrev push-state : State → ℕ → ℕ → State
 push-state s size count =
@@ -555,11 +548,6 @@ pushed u new s size count k q same long limit e back h words is-size is-count ro
 -- Words written from the end on.
 below : (u new : List ℕ) (n k : ℕ) → k < n → take n new ≡ take n u → getD new k 0 ≡ getD u k 0
 below u new n k b h = sym (getD-take n new k 0 b) ∙ ap (λ xs. getD xs k 0) h ∙ getD-take n u k 0 b
-
-between-below : (u new : List ℕ) (n i j : ℕ) → j ≤ n → take n new ≡ take n u → between i j new ≡ between i j u
-between-below u new n i j b h =
-    let t : take j new ≡ take j u = sym (take-take j n new b) ∙ ap (take j) h ∙ take-take j n u b in
-    between-is new i j ∙ ap (drop i) t ∙ sym (between-is u i j)
 
 pub written-keeps : Written-keeps
 written-keeps u new limit back ahead h same long =

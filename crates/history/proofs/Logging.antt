@@ -5,7 +5,7 @@ use Prim.Native.Nat.{ℕ, zero, suc, _+_, _-_, _*_, _≤_, _<_}
 use native.Mathlib.Omega.{arith}
 use lib.ListN.{length, getD, take, drop}
 use Rattle.std.specs.Holes.{between}
-use Rattle.std.proofs.shelf.Lists.{append-assoc, append-nil, length-append, take-append-drop, take-at, drop-at, drop-drop, getD-push}
+use Rattle.std.proofs.shelf.Lists.{append-assoc, append-nil, length-append, take-append-drop, take-at, take-take, drop-at, drop-drop, getD-push}
 use Rattle.std.proofs.shelf.Edits.{length-between, getD-between, between-none}
 use lib.Seq.{take-add}
 use Rattle.std.proofs.shelf.Parts.{between-is}
@@ -67,7 +67,7 @@ length-payload (was-accepted c ms) = omega (arith, length-marks-written ms)
 length-payload (was-rejected c ms) = omega (arith, length-marks-written ms)
 length-payload (was-styled i s old) = omega (arith, length-cells-written old)
 
-pub length-head : (e : Entry) → length (head-words e) ≡ 5
+length-head : (e : Entry) → length (head-words e) ≡ 5
 unfolding head-words
 length-head (was-put a i s ls) = refl
 length-head (was-struck a i k old) = refl
@@ -106,6 +106,12 @@ between-join ws i j k a b =
     let m : i + (j - i) ≡ j = omega arith in
     ap (λ x. take x (drop i ws)) n ∙ take-add (j - i) (k - j) (drop i ws)
     ∙ ap (λ ys. between i j ws ++ take (k - j) ys) (drop-drop (j - i) i ws ∙ ap (λ x. drop x ws) m)
+
+-- a part of what stayed
+pub between-below : (u new : List ℕ) (n i j : ℕ) → j ≤ n → take n new ≡ take n u → between i j new ≡ between i j u
+between-below u new n i j b h =
+    let t : take j new ≡ take j u = sym (take-take j n new b) ∙ ap (take j) h ∙ take-take j n u b in
+    between-is new i j ∙ ap (drop i) t ∙ sym (between-is u i j)
 
 -- a part that is one list after another falls into these two
 record Falls (ws : List ℕ) (i j k : ℕ) (xs ys : List ℕ) : Type 0 where
@@ -197,7 +203,7 @@ pub log-pushes : Log-pushes
 unfolding back-words ahead-words
 log-pushes ws new s c e back h same words room =
     let j : ℕ = c + entry-size e in
-    let old : between s c new ≡ back-words back = between-is new s c ∙ ap (drop s) same ∙ sym (between-is ws s c) ∙ h .behind in
+    let old : between s c new ≡ back-words back = between-below ws new c s c (omega arith) same ∙ h .behind in
     let behind : between s j new ≡ back-words back ++ entry-words e =
     between-join new s c j (h .begun) (omega arith) ∙ ap (λ xs. xs ++ between c j new) old ∙ ap (λ xs. back-words back ++ xs) words in
     record { behind = behind; before = between-none new j; begun = omega arith; ended = omega arith; inside = room }

@@ -1,7 +1,7 @@
 // The words of one entry of the log: a head of seven words, then letters, cells or marks, and the entry's size again.
 ghost use mathlib.Core.Path.{_≡_};
 ghost use mathlib.Core.List.{_++_};
-ghost use Prim.Native.Nat.{ℕ, _+_, _-_, _≤_};
+ghost use Prim.Native.Nat.{_+_, _-_, _≤_};
 ghost use lib.ListN.{length, set, take, drop};
 ghost use Rattle.history.specs.Head.{kind-number, kind-at, head-list, head-at, Head-reads, Entry-written, Entry-stands, Payload-stands, Letter-stands, Cells-stand, Marks-stand, Cells-make, Marks-make, Written-long};
 

@@ -1,8 +1,8 @@
 // The log of what can be undone and done again, in lent words: a head of sixteen words, then the words of the entries, the oldest first.
 ghost use mathlib.Core.Path.{_≡_};
-ghost use mathlib.Core.List.{List, [], _∷_, _++_};
+ghost use mathlib.Core.List.{List, [], _++_};
 ghost use Prim.Native.Nat.{ℕ, _+_, _-_, _*_, _≤_, _<_};
-ghost use lib.ListN.{length, getD, take, drop, replicate};
+ghost use lib.ListN.{length, getD, drop, replicate};
 ghost use Rattle.history.specs.Entry.{Entry};
 ghost use Rattle.history.specs.Log.{Log, Keeps, Some-log, Headed, Steps-back, Steps-ahead, Drops, Forgets-oldest, Forgets, Stays, Room, Makes-room, Can-push, Pushes, Written-keeps, Written-keeps-room, Room-pushes, end-of};
 

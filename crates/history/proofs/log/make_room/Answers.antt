@@ -2,7 +2,7 @@
 use mathlib.Core.Path.{_∙_}
 use Prim.Native.Nat.{_+_, _-_, _*_}
 use native.Mathlib.Omega.{arith}
-use Rattle.history.proofs.Keeping.{keeps-dropped, keeps-forgot, none-forgot, emptied, roomed, rest-kept}
+use Rattle.history.proofs.Keeping.{keeps-dropped, keeps-forgot, none-forgot, emptied, roomed, from-on}
 use Rattle.history.proofs.log.make_room.Needs as need
 
 pub forget-requires : need.forget-requires
@@ -15,7 +15,7 @@ pub returns-then-count-limit : need.returns-then-count-limit
 returns-then-count-limit c =
     record {
       room = emptied (c .args .u .now) (c .drop-ahead .last .u) (c .forget .last .u) (c .args .limit) (c .args .count) (c .if-count-limit .taken) (c .drop-ahead .ensures .drops) (c .forget .ensures .forgets);
-      rest = rest-kept (c .args .u .now) (c .forget .last .u) 7 (16 + 16 * c .args .limit) (omega arith) (c .forget .ensures .rest ∙ c .drop-ahead .ensures .rest);
+      rest = from-on (c .args .u .now) (c .forget .last .u) 7 (16 + 16 * c .args .limit) (omega arith) (c .forget .ensures .rest ∙ c .drop-ahead .ensures .rest);
     }
 
 pub room-for-requires : need.room-for-requires
@@ -31,9 +31,9 @@ pub returns : need.returns
 returns c =
     record {
       room =
-        roomed (c .args .u .now) (c .drop-ahead .last .u) (c .forget-2 .last .u) (c .room-for .last .u) (c .args .limit) (c .args .count) (c .room-for .result) (c .if-count-limit .left)
-        (c .drop-ahead .ensures .drops) (c .forget-2 .ensures .forgets) (c .room-for .ensures .stays) (c .room-for .ensures .room);
+          roomed (c .args .u .now) (c .drop-ahead .last .u) (c .forget-2 .last .u) (c .room-for .last .u) (c .args .limit) (c .args .count) (c .room-for .result) (c .if-count-limit .left)
+          (c .drop-ahead .ensures .drops) (c .forget-2 .ensures .forgets) (c .room-for .ensures .stays) (c .room-for .ensures .room);
       rest =
-        c .room-for .ensures .rest
-        ∙ rest-kept (c .args .u .now) (c .forget-2 .last .u) 7 (16 + 16 * c .args .limit) (omega arith) (c .forget-2 .ensures .rest ∙ c .drop-ahead .ensures .rest);
+          c .room-for .ensures .rest
+          ∙ from-on (c .args .u .now) (c .forget-2 .last .u) 7 (16 + 16 * c .args .limit) (omega arith) (c .forget-2 .ensures .rest ∙ c .drop-ahead .ensures .rest);
     }

@@ -12,11 +12,11 @@ returns c =
     let b : 16 + c .read-log .result .end ≤ length (c .args .u .now) = omega (arith, w .inside, c .read-log .ensures) in
     record {
       stays =
-        front-stays (c .args .u .now) (c .copy-within .last .self) (c .write .last .u) (c .read-log .result) (c .read-log .ensures) a b
-        (c .copy-within .ensures .after) (c .write .ensures .rest) (omega (arith, c .write .kept .u, c .copy-within .ensures .len)) (c .write .ensures .head);
+          front-stays (c .args .u .now) (c .copy-within .last .self) (c .write .last .u) (c .read-log .result) (c .read-log .ensures) a b
+          (c .copy-within .ensures .after) (c .write .ensures .rest) (omega (arith, c .write .kept .u, c .copy-within .ensures .len)) (c .write .ensures .head);
       front = c .write .ensures .head .start;
       rest =
-        λ n h.
-        front-rest (c .args .u .now) (c .copy-within .last .self) (c .write .last .u) (c .read-log .result) (c .read-log .ensures) a b
-        (c .copy-within .ensures .after) (c .write .ensures .rest) (omega (arith, c .write .kept .u, c .copy-within .ensures .len)) n (omega (arith, h, c .read-log .ensures));
+          λ n h.
+          front-rest (c .args .u .now) (c .copy-within .last .self) (c .write .last .u) (c .read-log .result) (c .read-log .ensures) a b
+          (c .copy-within .ensures .after) (c .write .ensures .rest) (omega (arith, c .write .kept .u, c .copy-within .ensures .len)) n (omega (arith, h, c .read-log .ensures));
     }
