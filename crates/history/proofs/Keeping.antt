@@ -11,9 +11,9 @@ use lib.Seq.{paste}
 use Rattle.history.specs.Entry.{Entry, counts}
 use Rattle.history.specs.Steps.{all-count, kept}
 use Rattle.history.specs.Words.{back-words, ahead-words, entry-size, entry-words, Logged, Entry-at}
-use Rattle.history.specs.Log.{start-of, cursor-of, end-of, Log, Keeps, Some-log, Headed, Steps-back, Steps-ahead, Drops, Forgets-oldest, Forgets, Stays, Room, Roomed, Emptied, Can-push, Pushes, Written-keeps, Written-keeps-room, Room-pushes}
+use Rattle.history.specs.Log.{start-of, cursor-of, end-of, Log, Keeps, Some-log, Headed, Stepped, Steps-back, Steps-ahead, Inside, Drops, Forgets-oldest, Forgets, Stays, Room, Roomed, Emptied, Can-push, Pushes, Written-keeps, Written-keeps-room, Room-pushes}
 use Rattle.history.specs.declared.log.State.{State}
-use Rattle.history.proofs.Logging.{log-back, log-ahead, log-forgets, log-drops, log-pushes, log-moves-to, log-long, entry-long, between-below}
+use Rattle.history.proofs.Logging.{log-back, log-ahead, log-forgets, log-drops, log-pushes, log-moves-to, log-long, entry-long, between-below, there}
 use Rattle.history.proofs.Stepping.{oldest, all-count-push, kept-within, kept-all, kept-forgets}
 
 -- Words from place k on that stayed as they were keep what stands there.
@@ -51,6 +51,16 @@ logged-new u new s c t back ahead h same n es ec et =
 logged-now : (u : List ℕ) (s : State) (limit : ℕ) (back ahead : List Entry) → Log u limit back ahead → Headed u s → Logged u (16 + s .start) (16 + s .cursor) (16 + s .end) back ahead
 logged-now u s limit back ahead h k =
     logged-at u (start-of u) (cursor-of u) (end-of u) (16 + s .start) (16 + s .cursor) (16 + s .end) back ahead (h .words) (omega arith) (omega arith) (omega arith)
+
+-- an entry in words that stayed
+entry-kept : (u new : List ℕ) (k a : ℕ) (e : Entry) → k ≤ a → drop k new ≡ drop k u → Entry-at u a e → Entry-at new a e
+entry-kept u new k a e b same h = there new a e (ap (take (a + entry-size e - a)) (from-on u new k a b same) ∙ h .words)
+
+inside-at : (u new : List ℕ) (limit : ℕ) (back ahead : List Entry) (a : ℕ) (e : Entry) → Stepped u new limit back ahead a e → Inside new a
+inside-at u new limit back ahead a e h =
+    let n : getD new a 0 ≡ entry-size e = h .stands .size-word in
+    let m : getD new (a + 1) 0 ≡ counts e = h .stands .count-word in
+    record { size = omega arith; end = omega (arith, h .inside); count = omega arith }
 
 -- One step back: the latest entry behind the cursor.
 abbrev back-size : List ℕ → State → ℕ
@@ -118,20 +128,38 @@ pub stepped-back : (u new : List ℕ) (s : State) → Headed u s → Headed new 
 unfolding all-count
 stepped-back u new s k q same long limit e back ahead h =
     let b = back-entry u s limit e back ahead h k in
-    let n : back-count u s ≡ counts e = b .at .count-word in (
-      record {
-        words = logged-new u new (s .start) (s .cursor - back-size u s) (s .end) back (e ∷ ahead) (b .moved) same long (q .start) (q .cursor) (q .end);
-        room = omega arith;
-        many-back = omega arith;
-        many-ahead = omega arith;
-        done = omega arith;
-        undone = omega arith;
-        within = omega arith;
-        low = h .low;
-        long = omega arith;
-      },
-      b .at,
-    )
+    let n : back-count u s ≡ counts e = b .at .count-word in
+    let size : back-size u s ≡ entry-size e = b .size in
+    let fits = b .fits in
+    let ended : cursor-of u ≤ end-of u = h .words .ended in
+    let inside : end-of u ≤ length u = h .words .inside in
+    record {
+      log =
+          record {
+            words = logged-new u new (s .start) (s .cursor - back-size u s) (s .end) back (e ∷ ahead) (b .moved) same long (q .start) (q .cursor) (q .end);
+            room = omega arith;
+            many-back = omega arith;
+            many-ahead = omega arith;
+            done = omega arith;
+            undone = omega arith;
+            within = omega arith;
+            low = h .low;
+            long = omega arith;
+          };
+      was = b .at;
+      stands = entry-kept u new 7 (back-at u s) e (omega arith) same (b .at);
+      inside = omega arith;
+    }
+
+back-keeps :
+    (u new : List ℕ) (a limit : ℕ) (back ahead : List Entry) → Steps-back u new a → 0 < getD u 3 0 → Log u limit back ahead → Keeps new limit × Inside new a
+back-keeps u new a limit [] ahead steps more h = absurd (omega arith)
+back-keeps u new a limit (e ∷ back) ahead steps more h =
+    let r = steps limit e back ahead h in
+    (record { back = back; ahead = e ∷ ahead; log = r .log }, inside-at u new limit back (e ∷ ahead) a e r)
+
+pub keeps-back : (u new : List ℕ) (a limit : ℕ) → Steps-back u new a → 0 < getD u 3 0 → Keeps u limit → Keeps new limit × Inside new a
+keeps-back u new a limit steps more x = back-keeps u new a limit (x .back) (x .ahead) steps more (x .log)
 
 -- One step ahead: the entry at the cursor.
 abbrev pub ahead-at : State → ℕ
@@ -196,20 +224,38 @@ pub stepped-ahead : (u new : List ℕ) (s : State) → Headed u s → Headed new
 unfolding all-count
 stepped-ahead u new s k q same long limit e back ahead h =
     let b = ahead-entry u s limit e back ahead h k in
-    let n : ahead-count u s ≡ counts e = b .at .count-word in (
-      record {
-        words = logged-new u new (s .start) (s .cursor + ahead-size u s) (s .end) (e ∷ back) ahead (b .moved) same long (q .start) (q .cursor) (q .end);
-        room = omega arith;
-        many-back = omega arith;
-        many-ahead = omega arith;
-        done = omega arith;
-        undone = omega arith;
-        within = omega arith;
-        low = h .low;
-        long = omega arith;
-      },
-      b .at,
-    )
+    let n : ahead-count u s ≡ counts e = b .at .count-word in
+    let size : ahead-size u s ≡ entry-size e = b .at .size-word in
+    let fits = b .fits in
+    let ended : cursor-of u ≤ end-of u = h .words .ended in
+    let inside : end-of u ≤ length u = h .words .inside in
+    record {
+      log =
+          record {
+            words = logged-new u new (s .start) (s .cursor + ahead-size u s) (s .end) (e ∷ back) ahead (b .moved) same long (q .start) (q .cursor) (q .end);
+            room = omega arith;
+            many-back = omega arith;
+            many-ahead = omega arith;
+            done = omega arith;
+            undone = omega arith;
+            within = omega arith;
+            low = h .low;
+            long = omega arith;
+          };
+      was = b .at;
+      stands = entry-kept u new 7 (ahead-at s) e (omega arith) same (b .at);
+      inside = omega arith;
+    }
+
+ahead-keeps :
+    (u new : List ℕ) (a limit : ℕ) (back ahead : List Entry) → Steps-ahead u new a → 0 < getD u 4 0 → Log u limit back ahead → Keeps new limit × Inside new a
+ahead-keeps u new a limit back [] steps more h = absurd (omega arith)
+ahead-keeps u new a limit back (e ∷ ahead) steps more h =
+    let r = steps limit e back ahead h in
+    (record { back = e ∷ back; ahead = ahead; log = r .log }, inside-at u new limit (e ∷ back) ahead a e r)
+
+pub keeps-ahead : (u new : List ℕ) (a limit : ℕ) → Steps-ahead u new a → 0 < getD u 4 0 → Keeps u limit → Keeps new limit × Inside new a
+keeps-ahead u new a limit steps more x = ahead-keeps u new a limit (x .back) (x .ahead) steps more (x .log)
 
 -- The log of nothing.
 pub cleared :

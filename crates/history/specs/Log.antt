@@ -55,14 +55,25 @@ pub record Headed (u : List ℕ) (s : State) : Type 0 where
   pub done : getD u 5 0 ≡ s .done
   pub undone : getD u 6 0 ≡ s .undone
 
--- One entry back, and one ahead: a is where the entry stands that was stepped over.
+-- One entry was stepped over: it stands at a, before and after.
+pub record Stepped (u new : List ℕ) (limit : ℕ) (back ahead : List Entry) (a : ℕ) (e : Entry) : Type 0 where
+  pub log : Log new limit back ahead
+  pub was : Entry-at u a e
+  pub stands : Entry-at new a e
+  pub inside : a + entry-size e ≤ length new
+
+-- one entry back, and one ahead
 abbrev pub Steps-back : List ℕ → List ℕ → ℕ → Type 0
-Steps-back u new a =
-    (limit : ℕ) (e : Entry) (back ahead : List Entry) → Log u limit (e ∷ back) ahead → Log new limit back (e ∷ ahead) × Entry-at u a e
+Steps-back u new a = (limit : ℕ) (e : Entry) (back ahead : List Entry) → Log u limit (e ∷ back) ahead → Stepped u new limit back (e ∷ ahead) a e
 
 abbrev pub Steps-ahead : List ℕ → List ℕ → ℕ → Type 0
-Steps-ahead u new a =
-    (limit : ℕ) (e : Entry) (back ahead : List Entry) → Log u limit back (e ∷ ahead) → Log new limit (e ∷ back) ahead × Entry-at u a e
+Steps-ahead u new a = (limit : ℕ) (e : Entry) (back ahead : List Entry) → Log u limit back (e ∷ ahead) → Stepped u new limit (e ∷ back) ahead a e
+
+-- in plain numbers: an entry's words from a on are inside, and it counts one at least
+pub record Inside (u : List ℕ) (a : ℕ) : Type 0 where
+  pub size : 8 ≤ getD u a 0
+  pub end : a + getD u a 0 ≤ length u
+  pub count : 1 ≤ getD u (a + 1) 0
 
 -- what could be done again is dropped; the oldest entry is forgotten, and the oldest until those behind count at most so much; the log stays
 abbrev pub Drops : List ℕ → List ℕ → Type 0

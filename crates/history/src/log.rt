@@ -4,7 +4,7 @@ ghost use mathlib.Core.List.{List, [], _++_};
 ghost use Prim.Native.Nat.{ℕ, _+_, _-_, _*_, _≤_, _<_};
 ghost use lib.ListN.{length, getD, drop, replicate};
 ghost use Rattle.history.specs.Entry.{Entry};
-ghost use Rattle.history.specs.Log.{Log, Keeps, Some-log, Headed, Steps-back, Steps-ahead, Drops, Forgets-oldest, Forgets, Stays, Room, Makes-room, Can-push, Pushes, Written-keeps, Written-keeps-room, Room-pushes, end-of};
+ghost use Rattle.history.specs.Log.{Log, Keeps, Some-log, Headed, Steps-back, Steps-ahead, Inside, Drops, Forgets-oldest, Forgets, Stays, Room, Makes-room, Can-push, Pushes, Written-keeps, Written-keeps-room, Room-pushes, end-of};
 
 // The head. Start, cursor and end are counted from word 16 on.
 #[derive(Clone, Copy)]
@@ -72,6 +72,8 @@ pub fn step_back(u: &mut [u32]) -> usize
     requires log { ⌜ Some-log (now u) ⌝ }
     requires more { ⌜ 0 < getD (now u) 3 0 ⌝ }
     ensures steps { λ r. ⌜ Steps-back (now (u .entry)) (now (u .exit)) r ⌝ }
+    ensures keeps { λ _. ⌜ ((limit : ℕ) → Keeps (now (u .entry)) limit → Keeps (now (u .exit)) limit) ⌝ }
+    ensures inside { λ r. ⌜ Inside (now (u .exit)) r ⌝ }
     ensures rest { λ _. ⌜ drop 7 (now (u .exit)) ≡ drop 7 (now (u .entry)) ⌝ }
 {
     let log = read(u);
@@ -96,6 +98,8 @@ pub fn step_ahead(u: &mut [u32]) -> usize
     requires log { ⌜ Some-log (now u) ⌝ }
     requires more { ⌜ 0 < getD (now u) 4 0 ⌝ }
     ensures steps { λ r. ⌜ Steps-ahead (now (u .entry)) (now (u .exit)) r ⌝ }
+    ensures keeps { λ _. ⌜ ((limit : ℕ) → Keeps (now (u .entry)) limit → Keeps (now (u .exit)) limit) ⌝ }
+    ensures inside { λ r. ⌜ Inside (now (u .exit)) r ⌝ }
     ensures rest { λ _. ⌜ drop 7 (now (u .exit)) ≡ drop 7 (now (u .entry)) ⌝ }
 {
     let log = read(u);
