@@ -1,0 +1,5 @@
+pub mod Undoing
+pub mod Stepping
+pub mod Logging
+pub mod Keeping
+pub mod Heads

@@ -1,0 +1,5 @@
+pub mod Entry
+pub mod Steps
+pub mod Words
+pub mod Log
+pub mod Head
