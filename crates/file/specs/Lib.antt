@@ -1,0 +1,3 @@
+pub mod Paper
+pub mod Places
+pub mod Laws

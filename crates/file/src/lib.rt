@@ -1,0 +1,114 @@
+// A paper's file: the numbers in a text, and the paper that some numbers are.
+ghost use Prim.Native.Nat.{ℕ, _*_, _+_, _<_, _≤_};
+ghost use Rattle.file.specs.Laws.{One-way, Reads-back};
+ghost use Rattle.file.specs.Paper.{Ceases, Is-file, cell-at, change-at, paper-of};
+ghost use Rattle.file.specs.Places.{Mark-fits, Number-fits, last};
+ghost use Rattle.model.specs.Paper.{Cell as PaperCell, Change as PaperChange};
+ghost use Rattle.model.specs.Values.{cell-of, change-of};
+ghost use Rattle.std.specs.Orderings.{When};
+ghost use Rattle.std.specs.declared.result.Result.the-variants.{Err, Ok};
+ghost use lib.ListN.{getD, length};
+ghost use mathlib.Core.Path.{_≡_};
+use model::Cell;
+use model::Change;
+
+// How many changes and cells a paper has.
+#[derive(Clone, Copy)]
+pub struct Counts {
+    pub changes: usize,
+    pub cells: usize,
+}
+
+// Whether a cell's mark is none, or of a change that is there and open.
+fn mark_fits(numbers: &[u32], mark: u32) -> bool
+    requires { ⌜ last (now numbers) < length (now numbers) ⌝ }
+    ensures { λ r. ⌜ When r (Mark-fits (now (numbers .entry)) mark) (Mark-fits (now (numbers .entry)) mark → ⊥) ⌝ }
+{
+    mark == 0 || mark <= numbers[0] && numbers[2 * mark as usize] == 0
+}
+
+// Whether the number at place i fits, where those before it do.
+fn number_fits(numbers: &[u32], i: usize) -> bool
+    requires { ⌜ i < length (now numbers) ⌝ }
+    ensures { λ r. ⌜ When r (Number-fits (now (numbers .entry)) i) (Number-fits (now (numbers .entry)) i → ⊥) ⌝ }
+{
+    let number = numbers[i];
+    let last = 2 * numbers[0] as usize;
+    if i == 0 {
+        number <= 128
+    } else if i <= last {
+        number < if i % 2 == 1 { 256 } else { 3 }
+    } else if i - 1 - last >= 8192 {
+        false
+    } else {
+        match (i - 1 - last) % 4 {
+            0 => number == 10 || 32 <= number && number <= 126,
+            1 => number < 256,
+            _ => mark_fits(numbers, number),
+        }
+    }
+}
+
+// Whether some numbers are the file of a paper that fits: how many changes and cells it has, or the place of the first number that does not fit.
+// Where the numbers stop too early, that is how many there are.
+pub fn read(numbers: &[u32]) -> Result<Counts, usize>
+    ensures { λ r. ⌜ elim r [ Ok c ↦ Is-file (now (numbers .entry)) (c .changes) (c .cells) | Err i ↦ Ceases (now (numbers .entry)) i ] ⌝ }
+{
+    let len = numbers.len();
+    for i in 0..len {
+        if !number_fits(numbers, i) {
+            return Err(i);
+        }
+    }
+    if len == 0 {
+        return Err(len);
+    }
+    let changes = numbers[0] as usize;
+    let before = 1 + 2 * changes;
+    if len < before || (len - before) % 4 > 0 {
+        return Err(len);
+    }
+    Ok(Counts {
+        changes,
+        cells: (len - before) / 4,
+    })
+}
+
+// Change number k of a file.
+pub fn change(numbers: &[u32], counts: Counts, k: usize) -> Change
+    requires { ⌜ k < counts .changes ⌝ ∗ ⌜ Is-file (now numbers) (counts .changes) (counts .cells) ⌝ }
+    ensures { λ r. ⌜ ((d : PaperChange) → getD (paper-of (now (numbers .entry)) (counts .changes) (counts .cells) .changes) k d ≡ change-of r) ⌝ }
+{
+    Change {
+        author: numbers[1 + 2 * k],
+        became: numbers[2 + 2 * k],
+    }
+}
+
+// Cell number k of a file.
+pub fn cell(numbers: &[u32], counts: Counts, k: usize) -> Cell
+    requires { ⌜ k < counts .cells ⌝ ∗ ⌜ Is-file (now numbers) (counts .changes) (counts .cells) ⌝ }
+    ensures { λ r. ⌜ ((d : PaperCell) → getD (paper-of (now (numbers .entry)) (counts .changes) (counts .cells) .cells) k d ≡ cell-of r) ⌝ }
+{
+    let at = 1 + 2 * counts.changes + 4 * k;
+    Cell {
+        letter: numbers[at],
+        style: numbers[at + 1],
+        put_in: numbers[at + 2],
+        struck: numbers[at + 3],
+    }
+}
+
+// What is read from the file of a paper that fits is that paper.
+pub fn reads_back() -> u8
+    ensures { λ _. ⌜ Reads-back ⌝ }
+{
+    0
+}
+
+// Numbers are a file in one way, and cease to be one at one place, but not both.
+pub fn one_way() -> u8
+    ensures { λ _. ⌜ One-way ⌝ }
+{
+    0
+}
