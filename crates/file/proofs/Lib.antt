@@ -1,3 +1,4 @@
 pub mod Rows
 mod Passes
 mod Beginnings
+mod Scan

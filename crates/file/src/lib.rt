@@ -1,13 +1,17 @@
 // A paper's file: the numbers in a text, and the paper that some numbers are.
-ghost use Prim.Native.Nat.{ℕ, _*_, _+_, _<_, _≤_};
+ghost use Prim.Native.Nat.{ℕ, _*_, _+_, _-_, _<_, _≤_};
 ghost use Rattle.file.specs.Laws.{One-way, Reads-back};
 ghost use Rattle.file.specs.Paper.{Ceases, Is-file, cell-at, change-at, paper-of};
 ghost use Rattle.file.specs.Places.{Mark-fits, Number-fits, last};
+ghost use Rattle.file.specs.Scan.{No-number, Number-at, Past-white};
+ghost use Rattle.file.specs.Words.{All-read, Digit, Stops, white};
 ghost use Rattle.model.specs.Paper.{Cell as PaperCell, Change as PaperChange};
 ghost use Rattle.model.specs.Values.{cell-of, change-of};
 ghost use Rattle.std.specs.Orderings.{When};
+ghost use Rattle.std.specs.declared.option.Option.the-variants.{None, Some};
 ghost use Rattle.std.specs.declared.result.Result.the-variants.{Err, Ok};
 ghost use lib.ListN.{getD, length};
+ghost use mathlib.Core.Bool.{false};
 ghost use mathlib.Core.Path.{_≡_};
 use model::Cell;
 use model::Change;
@@ -17,6 +21,90 @@ use model::Change;
 pub struct Counts {
     pub changes: usize,
     pub cells: usize,
+}
+
+// A number in a text, and the place after its last digit.
+#[derive(Clone, Copy)]
+struct Number {
+    value: u32,
+    end: usize,
+}
+
+// Space, newline, carriage return, tab.
+fn is_white(c: u8) -> bool
+    ensures { λ r. ⌜ r ≡ white c ⌝ }
+{
+    c == 32 || c == 10 || c == 13 || c == 9
+}
+
+// The first place from `start` on where there is no white space.
+fn past_white(text: &[u8], start: usize) -> usize
+    requires { ⌜ start ≤ length (now text) ⌝ }
+    ensures { λ r. ⌜ Past-white (now (text .entry)) start r ⌝ }
+{
+    let mut at = start;
+    while at < text.len() && is_white(text[at]) {
+        at += 1;
+    }
+    at
+}
+
+// The digit c after digits that are worth `value`, if it is a digit and the number is not too large.
+fn with_digit(value: u32, c: u8) -> Option<u32>
+    ensures { λ r. ⌜ elim r [
+      | Some v ↦ Digit c × (v ≡ 10 * value + (c - 48)) × (v < 4294967296)
+      | None ↦ (Digit c → 10 * value + (c - 48) < 4294967296 → ⊥)
+    ] ⌝ }
+{
+    if c < 48 || c > 57 {
+        return None;
+    }
+    let longer = 10 * value as u64 + (c - 48) as u64;
+    if longer > 4294967295 {
+        return None;
+    }
+    Some(longer as u32)
+}
+
+// The number that begins at `start`.
+fn number_at(text: &[u8], start: usize) -> Option<Number>
+    requires { ⌜ start < length (now text) ⌝ ∗ ⌜ white (getD (now text) start 0) ≡ false ⌝ }
+    ensures { λ r. ⌜ elim r [ Some n ↦ Number-at (now (text .entry)) start (n .value) (n .end) | None ↦ No-number (now (text .entry)) start ] ⌝ }
+{
+    let mut value = 0;
+    let mut end = start;
+    while end < text.len() && !is_white(text[end]) {
+        let Some(longer) = with_digit(value, text[end]) else {
+            return None;
+        };
+        value = longer;
+        end += 1;
+    }
+    Some(Number { value, end })
+}
+
+// Writes the numbers of a text, one after another, and says how many there are. They are digits, the first of which may be 0, and white space parts them.
+// Otherwise it says which of them, counted from 0, is no number below 2^32 or has no room; those before it are written.
+pub fn numbers(text: &[u8], out: &mut [u32]) -> Result<usize, usize>
+    ensures { λ r. ⌜ elim r [
+      | Ok n ↦ All-read (now (text .entry)) (now (out .entry)) (now (out .exit)) n
+      | Err n ↦ Stops (now (text .entry)) (now (out .entry)) (now (out .exit)) n
+    ] ⌝ }
+{
+    let mut count = 0;
+    let mut at = past_white(text, 0);
+    while at < text.len() {
+        if count == out.len() {
+            return Err(count);
+        }
+        let Some(number) = number_at(text, at) else {
+            return Err(count);
+        };
+        out[count] = number.value;
+        count += 1;
+        at = past_white(text, number.end);
+    }
+    Ok(count)
 }
 
 // Whether a cell's mark is none, or of a change that is there and open.
