@@ -28,14 +28,16 @@ pub reads-back : Reads-back
 reads-back p g =
     let n : ℕ = length (p .changes) in
     let m : ℕ = length (p .cells) in
-    let e = paper-back p in
-    (e, record {
-      fits = rw e g;
-      is = ap written (sym e);
-      changes = length-changes (written p) 0 n;
-      cells = length-cells (written p) (1 + 2 * n) m;
-      long = length-written p;
-    })
+    let e = paper-back p in (
+      e,
+      record {
+        fits = rw e g;
+        is = ap written (sym e);
+        changes = length-changes (written p) 0 n;
+        cells = length-cells (written p) (1 + 2 * n) m;
+        long = length-written p;
+      },
+    )
 
 -- the numbers of a paper that fits fit
 written-fits : (p : Paper) → Fits p → (i : ℕ) → i < length (written p) → Number-fits (written p) i
@@ -154,10 +156,10 @@ one-way ns i j m n m′ n′ =
     let first : (n m : ℕ) → Is-file ns n m → getD ns 0 0 ≡ n = λ n m f. ap (λ (vs : List ℕ). getD vs 0 0) (f .is) ∙ f .changes in (
       λ f g. let a = first n m f in let b = first n′ m′ g in (omega arith, omega (arith, f .long, g .long)),
       λ a b.
-      elim (cases-order i j) [
-        | inl e ↦ e
-        | inr (inl h) ↦ absurd (not-later ns i j a b h)
-        | inr (inr h) ↦ absurd (not-later ns j i b a h)
-      ],
+          elim (cases-order i j) [
+            | inl e ↦ e
+            | inr (inl h) ↦ absurd (not-later ns i j a b h)
+            | inr (inr h) ↦ absurd (not-later ns j i b a h)
+          ],
       λ f a. a .ends (paper-of ns n m) (f .fits) (ap (take (i + 1)) (sym (f .is))),
     )

@@ -56,17 +56,17 @@ module _ (ns : List ℕ) (n m : ℕ) (long : length ns ≡ 1 + 2 * n + 4 * m) (f
               | inr l ↦ omega arith
             ];
         changes = λ k h.
-        let e : getD (changes-from ns 0 n) k no-change ≡ change-at ns k = rw zero-add at (change-in ns 0 n k no-change (omega arith)) in
-        rw e (record { author = f (1 + 2 * k) (omega arith) .author (omega arith) (omega arith) (omega arith); became = f (2 + 2 * k) (omega arith) .became (omega arith) (omega arith) (omega arith) });
+            let e : getD (changes-from ns 0 n) k no-change ≡ change-at ns k = rw zero-add at (change-in ns 0 n k no-change (omega arith)) in
+            rw e (record { author = f (1 + 2 * k) (omega arith) .author (omega arith) (omega arith) (omega arith); became = f (2 + 2 * k) (omega arith) .became (omega arith) (omega arith) (omega arith) });
         cells = λ k h.
-        let i : ℕ = 1 + 2 * n + 4 * k in
-        rw (cell-in ns (1 + 2 * n) m k no-cell (omega arith))
-        (record {
-          letter = f i (omega arith) .letter (omega arith) (omega arith);
-          style = f (i + 1) (omega arith) .style (omega arith) (omega arith);
-          put-in = mark-open _ (f (i + 2) (omega arith) .mark (omega arith) (omega arith));
-          struck = mark-open _ (f (i + 3) (omega arith) .mark (omega arith) (omega arith));
-        });
+            let i : ℕ = 1 + 2 * n + 4 * k in
+            rw (cell-in ns (1 + 2 * n) m k no-cell (omega arith))
+            (record {
+              letter = f i (omega arith) .letter (omega arith) (omega arith);
+              style = f (i + 1) (omega arith) .style (omega arith) (omega arith);
+              put-in = mark-open _ (f (i + 2) (omega arith) .mark (omega arith) (omega arith));
+              struck = mark-open _ (f (i + 3) (omega arith) .mark (omega arith) (omega arith));
+            });
       }
 
   -- change number k and cell number k fit, as the numbers tell them
@@ -86,29 +86,29 @@ module _ (ns : List ℕ) (n m : ℕ) (long : length ns ≡ 1 + 2 * n + 4 * m) (f
       record {
         count = λ e. rw e (omega (arith, g .few-changes));
         author = λ p q r.
-        let e : i ≡ 1 + 2 * (i / 2) = omega arith in
-        let c : getD ns (1 + 2 * (i / 2)) 0 < 256 = change-fits g (i / 2) (omega arith) .author in
-        omega (arith, ap (λ (j : ℕ). getD ns j 0) e);
+            let e : i ≡ 1 + 2 * (i / 2) = omega arith in
+            let c : getD ns (1 + 2 * (i / 2)) 0 < 256 = change-fits g (i / 2) (omega arith) .author in
+            omega (arith, ap (λ (j : ℕ). getD ns j 0) e);
         became = λ p q r.
-        let e : i ≡ 2 + 2 * (i / 2 - 1) = omega arith in
-        let c : getD ns (2 + 2 * (i / 2 - 1)) 0 < 3 = change-fits g (i / 2 - 1) (omega arith) .became in
-        omega (arith, ap (λ (j : ℕ). getD ns j 0) e);
+            let e : i ≡ 2 + 2 * (i / 2 - 1) = omega arith in
+            let c : getD ns (2 + 2 * (i / 2 - 1)) 0 < 3 = change-fits g (i / 2 - 1) (omega arith) .became in
+            omega (arith, ap (λ (j : ℕ). getD ns j 0) e);
         few = λ p. omega (arith, g .few-cells);
         letter = λ p r.
-        let e : 1 + 2 * n + 4 * k ≡ i = omega arith in
-        rw e at (cell-fits g k (omega arith) .letter);
+            let e : 1 + 2 * n + 4 * k ≡ i = omega arith in
+            rw e at (cell-fits g k (omega arith) .letter);
         style = λ p r.
-        let e : 1 + 2 * n + 4 * k + 1 ≡ i = omega arith in
-        rw e at (cell-fits g k (omega arith) .style);
+            let e : 1 + 2 * n + 4 * k + 1 ≡ i = omega arith in
+            rw e at (cell-fits g k (omega arith) .style);
         mark = λ p r.
-        elim (cases-lt ((i - 1 - last ns) % 4) 3) [
-          | inl two ↦
-              let e : 1 + 2 * n + 4 * k + 2 ≡ i = omega arith in
-              rw e at (open-mark-fits _ (cell-fits g k (omega arith) .put-in))
-          | inr three ↦
-              let e : 1 + 2 * n + 4 * k + 3 ≡ i = omega arith in
-              rw e at (open-mark-fits _ (cell-fits g k (omega arith) .struck))
-        ];
+            elim (cases-lt ((i - 1 - last ns) % 4) 3) [
+              | inl two ↦
+                  let e : 1 + 2 * n + 4 * k + 2 ≡ i = omega arith in
+                  rw e at (open-mark-fits _ (cell-fits g k (omega arith) .put-in))
+              | inr three ↦
+                  let e : 1 + 2 * n + 4 * k + 3 ≡ i = omega arith in
+                  rw e at (open-mark-fits _ (cell-fits g k (omega arith) .struck))
+            ];
       }
 
 -- whether a number fits is told by those up to it
@@ -124,8 +124,8 @@ same ms ns i e f =
       letter = λ a b. rw here at (f .letter (omega arith) (omega arith));
       style = λ a b. omega (arith, f .style (omega arith) (omega arith));
       mark = λ a b c.
-      let g = f .mark (omega arith) (omega arith) (omega arith) in
-      let t : 2 * getD ns i 0 ≡ 2 * getD ms i 0 = omega arith in
-      let l : 2 * getD ns i 0 ≤ last ns = omega arith in
-      (l, ap (λ (j : ℕ). getD ns j 0) t ∙ (sym (e (2 * getD ms i 0) (omega arith)) ∙ g .1));
+          let g = f .mark (omega arith) (omega arith) (omega arith) in
+          let t : 2 * getD ns i 0 ≡ 2 * getD ms i 0 = omega arith in
+          let l : 2 * getD ns i 0 ≤ last ns = omega arith in
+          (l, ap (λ (j : ℕ). getD ns j 0) t ∙ (sym (e (2 * getD ms i 0) (omega arith)) ∙ g .1));
     }

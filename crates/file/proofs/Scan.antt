@@ -13,6 +13,7 @@ use Rattle.std.proofs.shelf.Tests.{cases-lt, both-ways}
 use Rattle.model.specs.Paper.{pick}
 use Rattle.model.proofs.Picks.{pick-true, pick-false}
 use Rattle.file.specs.Words.{white, ended, words-after, words, value-after, value, Digit, Word-fits, All-read, Stops}
+use Rattle.file.specs.Laws.{Solid, Words-are}
 use Rattle.file.specs.Scan.{Past-white, Number-at, No-number}
 
 -- what digits are worth, one more, and at least what the first of them are
@@ -57,6 +58,21 @@ first-word w (c ∷ cs) h = go (white c) refl (first-word (w ++ (c ∷ [])) cs (
         → (u : List ℕ) × (ws : List (List ℕ)) × (words-after w (c ∷ cs) ≡ (w ++ u) ∷ ws)
     go true e r = ([], words cs, words-white w c cs e ∙ (ended-some w (words cs) h ∙ ap (λ (v : List ℕ). v ∷ words cs) (sym (append-nil w))))
     go false e r = (c ∷ r .0, r .1, words-more w c cs e ∙ (r .2 ∙ ap (λ (v : List ℕ). v ∷ r .1) (append-assoc w (c ∷ []) (r .0))))
+
+-- a word with no white space in it, before white space and at the end
+solid : (w u cs : List ℕ) → All Solid u → words-after w (u ++ cs) ≡ words-after (w ++ u) cs
+solid w [] cs h = ap (λ (v : List ℕ). words-after v cs) (sym (append-nil w))
+solid w (c ∷ u) cs h =
+    words-more w c (u ++ cs) (h .0) ∙ (solid (w ++ (c ∷ [])) u cs (h .1) ∙ ap (λ (v : List ℕ). words-after v cs) (append-assoc w (c ∷ []) u))
+
+pub words-are : Words-are
+words-are =
+    record {
+      none = words-nil [];
+      blank = λ c text e. words-white [] c text e;
+      last = λ w h s. ap words (sym (append-nil w)) ∙ (solid [] w [] s ∙ (words-nil w ∙ ended-some w [] h));
+      first = λ w c text h s e. solid [] w (c ∷ text) s ∙ (words-white w c text e ∙ ended-some w (words text) h);
+    }
 
 -- white space from `start` on
 pub white-more : (text : List ℕ) (start at : ℕ) → at < length text → white (getD text at 0) ≡ true → words (drop at text) ≡ words (drop start text)
@@ -112,9 +128,9 @@ module _ (text : List ℕ) (start end v : ℕ) (b : Begun text start end v) wher
         more = f .1;
         is = begun-next h e ∙ f .2;
         fits = λ g.
-        let d : Digit (getD (w ++ f .0) (length (b .word)) 0) = all-getD Digit (w ++ f .0) (length (b .word)) 0 (omega (arith, length-append w (f .0))) (g .digits) in
-        let a : getD (w ++ f .0) (length (b .word)) 0 ≡ c = getD-append-left w (f .0) 0 (length (b .word)) (omega arith) ∙ getD-push (b .word) c 0 (length (b .word)) refl in
-        bad (rw a at d) (omega (arith, g .small, value-front 0 w (f .0), worth-next c));
+            let d : Digit (getD (w ++ f .0) (length (b .word)) 0) = all-getD Digit (w ++ f .0) (length (b .word)) 0 (omega (arith, length-append w (f .0))) (g .digits) in
+            let a : getD (w ++ f .0) (length (b .word)) 0 ≡ c = getD-append-left w (f .0) 0 (length (b .word)) (omega arith) ∙ getD-push (b .word) c 0 (length (b .word)) refl in
+            bad (rw a at d) (omega (arith, g .small, value-front 0 w (f .0), worth-next c));
       }
 
   pub begun-end : start < length text → white (getD text start 0) ≡ false → (end < length text → white (getD text end 0) ≡ true) → Number-at text start v end
@@ -151,10 +167,6 @@ pub record Reads (text old out : List ℕ) (at count : ℕ) : Type 0 where
   pub within : at ≤ length text
   pub next : at < length text → white (getD text at 0) ≡ false
 
-pub reads-none : (text old : List ℕ) (at : ℕ) → Past-white text 0 at → Reads text old old at 0
-reads-none text old at p =
-    record { done = []; split = sym (p .same); long = refl; fit = tt; wrote = refl; room = omega arith; within = p .within; next = p .next }
-
 module _ (text old out : List ℕ) (at count : ℕ) (r : Reads text old out at count) where
   pub reads-more : count < length old → (v end at′ : ℕ) → Number-at text at v end → Past-white text end at′ → Reads text old (set out count v) at′ (count + 1)
   reads-more h v end at′ n p =
@@ -186,7 +198,7 @@ module _ (text old out : List ℕ) (at count : ℕ) (r : Reads text old out at c
   reads-all h =
       let d : words (drop at text) ≡ [] = ap words (drop-all at text h) ∙ words-nil [] in
       let e : words text ≡ r .done = r .split ∙ (ap (λ (ws : List (List ℕ)). r .done ++ ws) d ∙ append-nil (r .done)) in
-      record { count = ap length e ∙ r .long; fit = rw e (r .fit); wrote = rw e (r .wrote) }
+      record { count = ap length e ∙ r .long; room = r .room; fit = rw e (r .fit); wrote = rw e (r .wrote) }
 
   -- the next word, where there is no room for it or it is no number
   stops : (word : List ℕ) (more : List (List ℕ)) → words (drop at text) ≡ word ∷ more → (count ≡ length old) ⊎ (Word-fits word → ⊥) → Stops text old out count
@@ -196,6 +208,7 @@ module _ (text old out : List ℕ) (at count : ℕ) (r : Reads text old out at c
       let g : getD (words text) count [] ≡ word = ap (λ (ws : List (List ℕ)). getD ws count []) s ∙ getD-at (r .done) word more [] count (r .long) in
       record {
         within = omega (arith, ap length s, length-append (r .done) (word ∷ more), r .long);
+        room = r .room;
         fit = rw t (r .fit);
         wrote = rw t (r .wrote);
         why = rw g why;

@@ -44,6 +44,7 @@ pub record Word-fits (w : List ℕ) : Type 0 where
 -- all n words of a text are numbers, and stand at the front of what was lent; the words after them are as they were
 pub record All-read (text old out : List ℕ) (n : ℕ) : Type 0 where
   pub count : length (words text) ≡ n
+  pub room : n ≤ length old
   pub fit : All Word-fits (words text)
   pub wrote : out ≡ map value (words text) ++ drop n old
 
@@ -51,6 +52,7 @@ pub record All-read (text old out : List ℕ) (n : ℕ) : Type 0 where
 -- Word n is not a number, or there is no room for it.
 pub record Stops (text old out : List ℕ) (n : ℕ) : Type 0 where
   pub within : n < length (words text)
+  pub room : n ≤ length old
   pub fit : All Word-fits (take n (words text))
   pub wrote : out ≡ map value (take n (words text)) ++ drop n old
   pub why : (n ≡ length old) ⊎ (Word-fits (getD (words text) n []) → ⊥)

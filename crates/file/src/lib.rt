@@ -1,6 +1,6 @@
 // A paper's file: the numbers in a text, and the paper that some numbers are.
 ghost use Prim.Native.Nat.{ℕ, _*_, _+_, _-_, _<_, _≤_};
-ghost use Rattle.file.specs.Laws.{One-way, Reads-back};
+ghost use Rattle.file.specs.Laws.{One-way, Reads-back, Words-are};
 ghost use Rattle.file.specs.Paper.{Ceases, Is-file, cell-at, change-at, paper-of};
 ghost use Rattle.file.specs.Places.{Mark-fits, Number-fits, last};
 ghost use Rattle.file.specs.Scan.{No-number, Number-at, Past-white};
@@ -187,6 +187,13 @@ pub fn cell(numbers: &[u32], counts: Counts, k: usize) -> Cell
     }
 }
 
+// White space parts the words of a text.
+pub fn words_are() -> u8
+    ensures { λ _. ⌜ Words-are ⌝ }
+{
+    0
+}
+
 // What is read from the file of a paper that fits is that paper.
 pub fn reads_back() -> u8
     ensures { λ _. ⌜ Reads-back ⌝ }
@@ -199,4 +206,40 @@ pub fn one_way() -> u8
     ensures { λ _. ⌜ One-way ⌝ }
 {
     0
+}
+
+#[cfg(test)]
+mod tests {
+    use super::*;
+    use std::test::*;
+
+    // The place at which the numbers of a text cease to be a file.
+    fn refused(text: &[u8]) -> Option<usize> {
+        let mut room = [0; 16];
+        let n = match numbers(text, &mut room) {
+            Ok(n) => n,
+            Err(k) => return Some(k),
+        };
+        match read(&room[0..n]) {
+            Ok(_) => None,
+            Err(i) => Some(i),
+        }
+    }
+
+    #[test]
+    fn files() -> Result<(), Fail> {
+        check_eq(refused(b"0"), None)?;
+        check_eq(refused(b" 1 7 0\n97 0 1 0\r\n10\t255 0 01"), None)?;
+        check_eq(refused(b""), Some(0))?;
+        check_eq(refused(b"129"), Some(0))?;
+        check_eq(refused(b"1 256 0"), Some(1))?;
+        check_eq(refused(b"1 7 3"), Some(2))?;
+        check_eq(refused(b"1 7"), Some(2))?;
+        check_eq(refused(b"1 7 1 97 0 0 1"), Some(6))?;
+        check_eq(refused(b"0 97 0 1 0"), Some(3))?;
+        check_eq(refused(b"0 97 0 0"), Some(4))?;
+        check_eq(refused(b"0 9 0 0 0"), Some(1))?;
+        check_eq(refused(b"0 97 0x 0 0"), Some(2))?;
+        check_eq(refused(b"0 4294967296"), Some(1))
+    }
 }
