@@ -1,18 +1,17 @@
 -- The numbers of a file fit, each in its place, if and only if the paper fits.
 use mathlib.Core.Path.{_≡_, refl, sym, ap, _∙_}
 use mathlib.Core.Bool.{true}
-use mathlib.Core.List.{List, [], _∷_}
-use mathlib.Core.Logic.{_⊎_, inl, inr}
+use mathlib.Core.List.{List}
+use mathlib.Core.Logic.{inl, inr}
 use Prim.Native.Nat.{ℕ, zero, suc, _+_, _-_, _*_, _/_, _%_, _≤_, _<_}
 use native.Mathlib.Nat.{zero-add}
 use native.Mathlib.Omega.{arith}
-use lib.Dec.{eqb}
 use lib.ListN.{length, getD}
 use Rattle.std.proofs.shelf.Lists.{getD-past}
 use Rattle.std.proofs.shelf.Tests.{eqb-true, eq-eqb, cases-lt}
-use Rattle.model.specs.Paper.{Cell, Change, Paper}
+use Rattle.model.specs.Paper.{Change}
 use Rattle.model.specs.Valid.{open-mark}
-use Rattle.file.specs.Paper.{Change-fits, Cell-fits, Fits, no-change, no-cell, change-at, changes-from, cell-at, cells-from, paper-of}
+use Rattle.file.specs.Paper.{Change-fits, Cell-fits, Fits, no-change, no-cell, change-at, changes-from, cell-at, paper-of}
 use Rattle.file.specs.Places.{last, Mark-fits, Number-fits}
 use Rattle.file.proofs.Rows.{length-changes, length-cells, change-in, cell-in}
 

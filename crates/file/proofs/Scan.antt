@@ -3,14 +3,13 @@ use mathlib.Core.Path.{_≡_, refl, sym, ap, subst, _∙_}
 use mathlib.Core.Bool.{Bool, true, false}
 use mathlib.Core.List.{List, [], _∷_, _++_, map, append-nil, append-assoc}
 use mathlib.Core.Logic.{_⊎_, inl, inr}
-use Prim.Native.Nat.{ℕ, zero, suc, _+_, _-_, _*_, _≤_, _<_}
+use Prim.Native.Nat.{ℕ, _+_, _-_, _*_, _≤_, _<_}
 use native.Mathlib.Omega.{arith}
 use lib.ListN.{length, getD, set, take, drop}
 use Rattle.std.specs.shelf.Lists.{All}
 use Rattle.std.proofs.shelf.Lists.{drop-more, drop-all, length-append, length-push, length-map, take-at, set-at, map-push, getD-at, getD-append-left, getD-push}
 use Rattle.std.proofs.shelf.Elements.{all-push, all-getD}
 use Rattle.std.proofs.shelf.Tests.{cases-lt, both-ways}
-use Rattle.model.specs.Paper.{pick}
 use Rattle.model.proofs.Picks.{pick-true, pick-false}
 use Rattle.file.specs.Words.{white, ended, words-after, words, value-after, value, Digit, Word-fits, All-read, Stops}
 use Rattle.file.specs.Laws.{Solid, Words-are}

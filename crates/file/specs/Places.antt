@@ -1,7 +1,7 @@
 -- What each number of a file has to be, by its place and the numbers before it. Definitions only: nothing is assumed.
 use mathlib.Core.Path.{_≡_}
 use mathlib.Core.List.{List}
-use Prim.Native.Nat.{ℕ, _+_, _-_, _*_, _%_, _≤_, _<_}
+use Prim.Native.Nat.{ℕ, _-_, _*_, _%_, _≤_, _<_}
 use lib.ListN.{getD}
 use Rattle.file.specs.Paper.{Letter-fits}
 

@@ -1,7 +1,7 @@
 // A paper's file: the numbers in a text, and the paper that some numbers are.
-ghost use Prim.Native.Nat.{ℕ, _*_, _+_, _-_, _<_, _≤_};
+ghost use Prim.Native.Nat.{_*_, _+_, _-_, _<_, _≤_};
 ghost use Rattle.file.specs.Laws.{One-way, Reads-back, Words-are};
-ghost use Rattle.file.specs.Paper.{Ceases, Is-file, cell-at, change-at, paper-of};
+ghost use Rattle.file.specs.Paper.{Ceases, Is-file, paper-of};
 ghost use Rattle.file.specs.Places.{Mark-fits, Number-fits, last};
 ghost use Rattle.file.specs.Scan.{No-number, Number-at, Past-white};
 ghost use Rattle.file.specs.Words.{All-read, Digit, Stops, white};
@@ -15,6 +15,10 @@ ghost use mathlib.Core.Bool.{false};
 ghost use mathlib.Core.Path.{_≡_};
 use model::Cell;
 use model::Change;
+
+const MAX_CHANGES: u32 = 128;
+
+const MAX_CELLS: usize = 2048;
 
 // How many changes and cells a paper has.
 #[derive(Clone, Copy)]
@@ -34,7 +38,7 @@ struct Number {
 fn is_white(c: u8) -> bool
     ensures { λ r. ⌜ r ≡ white c ⌝ }
 {
-    c == 32 || c == 10 || c == 13 || c == 9
+    c == b' ' || c == b'\n' || c == b'\r' || c == b'\t'
 }
 
 // The first place from `start` on where there is no white space.
@@ -56,10 +60,10 @@ fn with_digit(value: u32, c: u8) -> Option<u32>
       | None ↦ (Digit c → 10 * value + (c - 48) < 4294967296 → ⊥)
     ] ⌝ }
 {
-    if c < 48 || c > 57 {
+    if c < b'0' || c > b'9' {
         return None;
     }
-    let longer = 10 * value as u64 + (c - 48) as u64;
+    let longer = 10 * value as u64 + (c - b'0') as u64;
     if longer > 4294967295 {
         return None;
     }
@@ -123,10 +127,10 @@ fn number_fits(numbers: &[u32], i: usize) -> bool
     let number = numbers[i];
     let last = 2 * numbers[0] as usize;
     if i == 0 {
-        number <= 128
+        number <= MAX_CHANGES
     } else if i <= last {
         number < if i % 2 == 1 { 256 } else { 3 }
-    } else if i - 1 - last >= 8192 {
+    } else if i - 1 - last >= 4 * MAX_CELLS {
         false
     } else {
         match (i - 1 - last) % 4 {
@@ -228,18 +232,24 @@ mod tests {
 
     #[test]
     fn files() -> Result<(), Fail> {
-        check_eq(refused(b"0"), None)?;
-        check_eq(refused(b" 1 7 0\n97 0 1 0\r\n10\t255 0 01"), None)?;
-        check_eq(refused(b""), Some(0))?;
-        check_eq(refused(b"129"), Some(0))?;
-        check_eq(refused(b"1 256 0"), Some(1))?;
-        check_eq(refused(b"1 7 3"), Some(2))?;
-        check_eq(refused(b"1 7"), Some(2))?;
-        check_eq(refused(b"1 7 1 97 0 0 1"), Some(6))?;
-        check_eq(refused(b"0 97 0 1 0"), Some(3))?;
-        check_eq(refused(b"0 97 0 0"), Some(4))?;
-        check_eq(refused(b"0 9 0 0 0"), Some(1))?;
-        check_eq(refused(b"0 97 0x 0 0"), Some(2))?;
-        check_eq(refused(b"0 4294967296"), Some(1))
+        let cases: [(&[u8], Option<usize>); 13] = [
+            (b"0", None),
+            (b" 1 7 0\n97 0 1 0\r\n10\t255 0 01", None),
+            (b"", Some(0)),
+            (b"129", Some(0)),
+            (b"1 256 0", Some(1)),
+            (b"1 7 3", Some(2)),
+            (b"1 7", Some(2)),
+            (b"1 7 1 97 0 0 1", Some(6)),
+            (b"0 97 0 1 0", Some(3)),
+            (b"0 97 0 0", Some(4)),
+            (b"0 9 0 0 0", Some(1)),
+            (b"0 97 0x 0 0", Some(2)),
+            (b"0 4294967296", Some(1)),
+        ];
+        for (text, place) in cases {
+            check_eq(refused(text), place)?;
+        }
+        Ok(())
     }
 }
