@@ -1,0 +1,4 @@
+pub mod Rows
+mod Passes
+mod Beginnings
+mod Scan
