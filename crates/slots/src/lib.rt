@@ -41,6 +41,9 @@ pub fn copy(c: &mut [u32], from: usize, to: usize, n: usize)
     ensures copied { λ _. ⌜ cellsAt (now (c .exit)) to n ≡ cellsAt (now (c .entry)) from n ⌝ }
     ensures kept { λ _. ⌜ Kept (now (c .entry)) (now (c .exit)) to n ⌝ }
 {
+    if from == to {
+        return;
+    }
     let start = 4 * from;
     let end = 4 * (from + n);
     c.copy_within(start..end, 4 * to);
