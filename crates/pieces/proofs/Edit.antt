@@ -7,11 +7,11 @@ use native.Mathlib.Nat.{zero-add, add-zero, add-assoc}
 use native.Mathlib.Numerals.{add-one}
 use native.Mathlib.Omega.{arith}
 use lib.ListN.{length, getD, take, drop, set}
-use Rattle.std.proofs.shelf.Lists.{append-assoc, length-append, length-drop, length-take-le, take-append-drop, take-at, drop-at, drop-drop, set-split, take-rest}
+use Rattle.std.proofs.shelf.Lists.{append-assoc, length-append, length-drop, length-take-le, take-append-drop, take-at, drop-at, drop-drop, set-split}
 use Rattle.std.proofs.shelf.Tests.{cases-lt}
-use Rattle.model.specs.Paper.{Cell, new-cells}
+use Rattle.model.specs.Paper.{Cell}
 use Rattle.slots.specs.Cells.{cellAt, cellsAt, Kept}
-use Rattle.slots.proofs.Words.{new-cells-append}
+use Rattle.slots.proofs.Words.{cells-split}
 use Rattle.tree.specs.Tree.{Sums}
 use Rattle.pieces.specs.Store.{slot, used, piece, strung, cells-of, before, Order, Table, Store, Frame, Edited}
 use Rattle.pieces.specs.Edits.{replaced, Filled, Resized, Changed, Same-text, Cut}
@@ -59,7 +59,7 @@ removed-more t i n m l =
 pub set-replaced : (t : List Cell) (i : ℕ) (x : Cell) → i < length t → replaced t i 1 (x ∷ []) ≡ set t i x
 set-replaced t i x l = rw add-one (sym (set-split t i x l))
 
--- a cut, and then letters at the end of the first part and at the front of the second
+-- a cut, and then cells at the end of the first part and at the front of the second
 pub inserted-twice : (c p d q e r f t : List ℕ) (s k o : ℕ) (a b : List Cell) → Store c p s → k + 1 < s → o ≤ used p k → Cut c p d q s k o
     → Changed d q e r s k (replaced (piece d q k) o 0 a) → Changed e r f t s (k + 1) (replaced (piece e r (k + 1)) 0 0 b) → Sums (drop 2048 t)
     → Edited c p f t s (replaced (cells-of c p s) (before p k + o) 0 (a ++ b))
@@ -106,16 +106,11 @@ not-last p s k l e m =
       | inr h ↦ absurd (let i : k ≡ s - 1 = omega arith in let z : used p k ≡ 0 = ap (used p) i ∙ e in omega arith)
     ]
 
--- the letters of both halves
-pub halves : (ls : List ℕ) (m s c : ℕ) → new-cells (take (m - 0) ls) s c ++ new-cells (take (length ls - m) (drop m ls)) s c ≡ new-cells ls s c
-halves ls m s c =
-    let z : m - 0 ≡ m = omega arith in
-    let r = take-rest ls m in
-    let a = new-cells-append (take m ls) (drop m ls) s c in
-    let t = take-append-drop m ls in
-    cc
+-- the first m of n cells and the others
+pub halves : (new : List ℕ) (from m n : ℕ) → m ≤ n → cellsAt new from m ++ cellsAt new (from + m) (n - m) ≡ cellsAt new from n
+halves new from m n l = let e : m + (n - m) ≡ n = omega arith in sym (cells-split new from m (n - m)) ∙ ap (cellsAt new from) e
 
--- letters put in at a place
+-- cells put in at a place
 pub put-text : (t new : List Cell) (i place : ℕ) → i ≡ place → replaced t i 0 new ≡ take place t ++ (new ++ drop place t)
 put-text t new i place e = let z : i + 0 ≡ place = omega arith in cc
 

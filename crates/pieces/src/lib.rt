@@ -11,6 +11,7 @@ ghost use Rattle.std.specs.Iters.{counting};
 ghost use Rattle.pieces.specs.Store.{used as uses, number, piece, cells-of, before, no-cell, cleared-cells, cleared-words, Edited, Gap, Located, Order, Table, Store};
 ghost use Rattle.pieces.specs.Edits.{replaced, Changed, Cut, Filled, Packed, Recounted, Resized, Rotated, Same-text, Shifted};
 ghost use Rattle.model.specs.Paper.{new-cells};
+ghost use Rattle.slots.specs.Cells.{cellsAt};
 ghost use Rattle.tree.specs.Tree.{Sums};
 use model::Cell;
 
@@ -118,16 +119,38 @@ pub fn put(
     requires mark { ⌜ change < 4294967295 ⌝ }
     ensures { λ _. ⌜ Edited (now (c .entry)) (now (p .entry)) (now (c .exit)) (now (p .exit)) s (take place (cells-of (now (c .entry)) (now (p .entry)) s) ++ (new-cells (now (letters .entry)) style change ++ drop place (cells-of (now (c .entry)) (now (p .entry)) s))) ⌝ }
 {
+    let mut new = [0; 4 * CELLS];
+    slots::fill(&mut new, 0, letters, style, change);
+    insert(c, p, s, place, &new, 0, letters.len());
+}
+
+// Puts `n` cells of `new`, from its number `from` on, into the text at `place`.
+pub fn insert(
+    c: &mut [u32],
+    p: &mut [u32],
+    s: usize,
+    place: usize,
+    new: &[u32],
+    from: usize,
+    n: usize,
+)
+    requires store { ⌜ Store (now c) (now p) s ⌝ }
+    requires place { ⌜ place ≤ length (cells-of (now c) (now p) s) ⌝ }
+    requires source { ⌜ 4 * (from + n) ≤ length (now new) ⌝ }
+    requires few { ⌜ n ≤ 1024 ⌝ }
+    requires fits { ⌜ length (cells-of (now c) (now p) s) + n ≤ 768 * (s - 1) ⌝ }
+    ensures { λ _. ⌜ Edited (now (c .entry)) (now (p .entry)) (now (c .exit)) (now (p .exit)) s (take place (cells-of (now (c .entry)) (now (p .entry)) s) ++ (cellsAt (now (new .entry)) from n ++ drop place (cells-of (now (c .entry)) (now (p .entry)) s))) ⌝ }
+{
     let spot = gap(p, s, place);
-    let has = used(p, spot.piece) + letters.len();
+    let has = used(p, spot.piece) + n;
     let last = used(p, s - 1);
     if has <= CELLS || last == 0 {
-        insert(c, p, s, spot, letters, style, change);
+        insert_at(c, p, s, spot, new, from, n);
         return;
     }
     repack(c, p, s);
     let spot = gap(p, s, place);
-    insert(c, p, s, spot, letters, style, change);
+    insert_at(c, p, s, spot, new, from, n);
 }
 
 // Takes `n` cells out of the text, from `place` on.
@@ -198,35 +221,34 @@ fn gap(p: &[u32], s: usize, place: usize) -> Spot
     }
 }
 
-// Puts the letters in at a gap. If they do not fit the piece there, it is cut at the gap, which takes the last piece.
-fn insert(
+// Puts the cells in at a gap. If they do not fit the piece there, it is cut at the gap, which takes the last piece.
+fn insert_at(
     c: &mut [u32],
     p: &mut [u32],
     s: usize,
     spot: Spot,
-    letters: &[u8],
-    style: u32,
-    change: u32,
+    new: &[u32],
+    from: usize,
+    n: usize,
 )
     requires store { ⌜ Store (now c) (now p) s ⌝ }
     requires here { ⌜ spot .piece < s ⌝ }
     requires within { ⌜ spot .offset ≤ uses (now p) (spot .piece) ⌝ }
-    requires few { ⌜ length (now letters) ≤ 1024 ⌝ }
-    requires spare { ⌜ (1024 < uses (now p) (spot .piece) + length (now letters) → uses (now p) (s - 1) ≡ 0) ⌝ }
-    requires mark { ⌜ change < 4294967295 ⌝ }
-    ensures { λ _. ⌜ Edited (now (c .entry)) (now (p .entry)) (now (c .exit)) (now (p .exit)) s (replaced (cells-of (now (c .entry)) (now (p .entry)) s) (before (now (p .entry)) (spot .piece) + spot .offset) 0 (new-cells (now (letters .entry)) style change)) ⌝ }
+    requires source { ⌜ 4 * (from + n) ≤ length (now new) ⌝ }
+    requires few { ⌜ n ≤ 1024 ⌝ }
+    requires spare { ⌜ (1024 < uses (now p) (spot .piece) + n → uses (now p) (s - 1) ≡ 0) ⌝ }
+    ensures { λ _. ⌜ Edited (now (c .entry)) (now (p .entry)) (now (c .exit)) (now (p .exit)) s (replaced (cells-of (now (c .entry)) (now (p .entry)) s) (before (now (p .entry)) (spot .piece) + spot .offset) 0 (cellsAt (now (new .entry)) from n)) ⌝ }
 {
     let k = spot.piece;
     let o = spot.offset;
-    let n = letters.len();
     if used(p, k) + n <= CELLS {
-        insert_here(c, p, s, k, o, letters, style, change);
+        insert_here(c, p, s, k, o, new, from, n);
         return;
     }
     split(c, p, s, k, o);
     let first = n.min(CELLS - o);
-    insert_here(c, p, s, k, o, &letters[0..first], style, change);
-    insert_here(c, p, s, k + 1, 0, &letters[first..], style, change);
+    insert_here(c, p, s, k, o, new, from, first);
+    insert_here(c, p, s, k + 1, 0, new, from + first, n - first);
 }
 
 // Takes out cells from `place` on, as far as one piece has them and at most `n`. Returns how many.
@@ -276,28 +298,28 @@ fn recount(p: &mut [u32], s: usize)
     tree::rebuild(&mut p[TREE..]);
 }
 
-// Makes room for the letters in the slot of piece `k`, from its cell `o` on, and writes them there.
+// Makes room for the cells in the slot of piece `k`, from its cell `o` on, and writes them there.
 fn insert_cells(
     c: &mut [u32],
     p: &[u32],
     s: usize,
     k: usize,
     o: usize,
-    letters: &[u8],
-    style: u32,
-    change: u32,
+    new: &[u32],
+    from: usize,
+    n: usize,
 )
     requires order { ⌜ Order (now p) s ⌝ }
     requires room { ⌜ 4096 * s ≤ length (now c) ⌝ }
     requires here { ⌜ k < s ⌝ }
     requires within { ⌜ o ≤ uses (now p) k ⌝ }
-    requires fits { ⌜ uses (now p) k + length (now letters) ≤ 1024 ⌝ }
-    requires mark { ⌜ change < 4294967295 ⌝ }
-    ensures { λ _. ⌜ Filled (now (c .entry)) (now (c .exit)) (now (p .entry)) k (replaced (piece (now (c .entry)) (now (p .entry)) k) o 0 (new-cells (now (letters .entry)) style change)) ⌝ }
+    requires source { ⌜ 4 * (from + n) ≤ length (now new) ⌝ }
+    requires fits { ⌜ uses (now p) k + n ≤ 1024 ⌝ }
+    ensures { λ _. ⌜ Filled (now (c .entry)) (now (c .exit)) (now (p .entry)) k (replaced (piece (now (c .entry)) (now (p .entry)) k) o 0 (cellsAt (now (new .entry)) from n)) ⌝ }
 {
     let at = number_of(p, s, k, o);
-    slots::copy(c, at, at + letters.len(), used(p, k) - o);
-    slots::fill(c, at, letters, style, change);
+    slots::copy(c, at, at + n, used(p, k) - o);
+    slots::paste(c, at, new, from, n);
 }
 
 // Takes `n` cells out of the slot of piece `k`, from its cell `o` on.
@@ -325,28 +347,28 @@ fn append_cells(c: &mut [u32], p: &[u32], s: usize, i: usize, j: usize, o: usize
     slots::copy(c, number_of(p, s, j, o), number_of(p, s, i, used(p, i)), n);
 }
 
-// Puts the letters into piece `k` before its cell `o`. They fit its slot.
+// Puts the cells into piece `k` before its cell `o`. They fit its slot.
 fn insert_here(
     c: &mut [u32],
     p: &mut [u32],
     s: usize,
     k: usize,
     o: usize,
-    letters: &[u8],
-    style: u32,
-    change: u32,
+    new: &[u32],
+    from: usize,
+    n: usize,
 )
     requires store { ⌜ Store (now c) (now p) s ⌝ }
     requires here { ⌜ k < s ⌝ }
     requires within { ⌜ o ≤ uses (now p) k ⌝ }
-    requires fits { ⌜ uses (now p) k + length (now letters) ≤ 1024 ⌝ }
-    requires mark { ⌜ change < 4294967295 ⌝ }
-    ensures changed { λ _. ⌜ Changed (now (c .entry)) (now (p .entry)) (now (c .exit)) (now (p .exit)) s k (replaced (piece (now (c .entry)) (now (p .entry)) k) o 0 (new-cells (now (letters .entry)) style change)) ⌝ }
+    requires source { ⌜ 4 * (from + n) ≤ length (now new) ⌝ }
+    requires fits { ⌜ uses (now p) k + n ≤ 1024 ⌝ }
+    ensures changed { λ _. ⌜ Changed (now (c .entry)) (now (p .entry)) (now (c .exit)) (now (p .exit)) s k (replaced (piece (now (c .entry)) (now (p .entry)) k) o 0 (cellsAt (now (new .entry)) from n)) ⌝ }
     ensures sums { λ _. ⌜ Sums (drop 2048 (now (p .exit))) ⌝ }
 {
-    insert_cells(c, p, s, k, o, letters, style, change);
-    let n = used(p, k) + letters.len();
-    resize(p, k, n);
+    insert_cells(c, p, s, k, o, new, from, n);
+    let more = used(p, k) + n;
+    resize(p, k, more);
 }
 
 // Takes `n` cells out of piece `k`, from its cell `o` on.
