@@ -16,7 +16,7 @@ use Rattle.pieces.proofs.Change.{frame-none}
 use Rattle.pieces.proofs.Cuts.{piece-none, strung-pair-same, used-from, recounted, recounted-used, same-both}
 
 pub same-none : (c p : List ℕ) (s : ℕ) → Order p s → Same-text c p c p s
-same-none c p s o = record { order = o; frame = frame-none c p s; text = refl }
+same-none c p s o = record { order = o; frame = frame-none c p s; text = refl; marked = λ mk. mk }
 
 pub same-before : (c p d q : List ℕ) (s : ℕ) → Same-text c p d q s → before q s ≡ before p s
 same-before c p d q s h = sym (length-text d q s) ∙ ap length (h .text) ∙ length-text c p s
@@ -51,6 +51,7 @@ module _ (c p d q : List ℕ) (s i j n : ℕ) (l : i < j) (m : j < s) (a : n ≤
         order = h .order;
         frame = h .frame;
         text = strung-pair-same (piece c p) (piece d q) i j s l m (λ x y z. piece-none c p x (k .empty x y z)) (h .others) (cc);
+        marked = h .marked;
       }
 
   pub poured-packed : Packed q i j

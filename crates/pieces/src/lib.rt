@@ -1,14 +1,17 @@
 // A paper's cells kept in pieces, over two lent slices of words: `c` has `s` slots of 1,024 cells, and `p` says in which order the slots stand (words 0
-// to 2047) and how many cells each has (from word 2048 on, a tree of counts with 2,048 leaves). Every slot is a piece of the text, an unused one has no
-// cells. Words of `c` past the slots and words of `p` past 6144 are never touched.
+// to 2047), how many cells each has (from word 2048 on, a tree of counts with 2,048 leaves) and which marks they may have (from word 6144 on, two words
+// a slot). Every slot is a piece of the text, an unused one has no cells. Words of `c` past the slots and words of `p` past 10240 are never touched.
 ghost use mathlib.Core.Path.{_≡_};
-ghost use mathlib.Core.List.{_++_, []};
+ghost use mathlib.Core.Bool.{false};
+ghost use mathlib.Core.List.{List, _++_, []};
 ghost use mathlib.Core.Logic.{_≢_};
 ghost use Prim.Native.Nat.{ℕ, _+_, _-_, _*_, _/_, _<_, _≤_};
 ghost use lib.ListN.{length, getD, set, take, drop, replicate};
 ghost use Rattle.model.specs.Values.{cell-of};
 ghost use Rattle.std.specs.Iters.{counting};
-ghost use Rattle.pieces.specs.Store.{used as uses, number, piece, cells-of, before, no-cell, cleared-cells, cleared-words, Edited, Gap, Located, Order, Table, Store};
+ghost use Rattle.pieces.specs.Store.{used as uses, slot, number, piece, cells-of, before, no-cell, cleared-cells, cleared-words, Edited, Gap, Located, Order, Table, Store};
+ghost use Rattle.std.specs.shelf.Lists.{All};
+ghost use Rattle.pieces.specs.Marks.{has, noted, noted-cells, with-set, Beside, Grown, Has, Joined, Lacks, Marks};
 ghost use Rattle.pieces.specs.Edits.{replaced, Changed, Cut, Filled, Packed, Recounted, Resized, Rotated, Same-text, Shifted};
 ghost use Rattle.model.specs.Paper.{new-cells};
 ghost use Rattle.slots.specs.Cells.{cellsAt};
@@ -23,7 +26,11 @@ const TREE: usize = 2048;
 
 const LEAVES: usize = 4096;
 
-const WORDS: usize = 6144;
+const LOW: usize = 6144;
+
+const HIGH: usize = 8192;
+
+const WORDS: usize = 10240;
 
 // A piece, and a place in it.
 #[derive(Clone, Copy)]
@@ -93,13 +100,56 @@ pub fn locate(p: &[u32], s: usize, place: usize) -> Spot
 }
 
 // Writes cell `o` of piece `k`.
-pub fn overwrite(c: &mut [u32], p: &[u32], s: usize, k: usize, o: usize, cell: Cell)
+pub fn overwrite(c: &mut [u32], p: &mut [u32], s: usize, k: usize, o: usize, cell: Cell)
     requires store { ⌜ Store (now c) (now p) s ⌝ }
     requires here { ⌜ k < s ⌝ }
     requires within { ⌜ o < uses (now p) k ⌝ }
-    ensures { λ _. ⌜ Edited (now (c .entry)) (now (p .entry)) (now (c .exit)) (now (p .entry)) s (set (cells-of (now (c .entry)) (now (p .entry)) s) (before (now (p .entry)) k + o) (cell-of cell)) ⌝ }
+    ensures { λ _. ⌜ Edited (now (c .entry)) (now (p .entry)) (now (c .exit)) (now (p .exit)) s (set (cells-of (now (c .entry)) (now (p .entry)) s) (before (now (p .entry)) k + o) (cell-of cell)) ⌝ }
 {
     slots::write(c, number_of(p, s, k, o), cell);
+    let i = p[k] as usize;
+    note(p, i, cell.put_in);
+    note(p, i, cell.struck);
+}
+
+// Whether piece `k` may have a cell with the mark. If not, it has none.
+pub fn may_have(p: &[u32], s: usize, k: usize, mark: u32) -> bool
+    requires order { ⌜ Order (now p) s ⌝ }
+    requires here { ⌜ k < s ⌝ }
+    ensures is { λ r. ⌜ r ≡ has (now (p .entry)) (slot (now (p .entry)) k) mark ⌝ }
+    ensures lacks { λ r. ⌜ (r ≡ false → (c : List ℕ) → Store c (now (p .entry)) s → All (Lacks mark) (piece c (now (p .entry)) k)) ⌝ }
+{
+    let i = p[k] as usize;
+    let low = (p[LOW + i] >> (mark % 32)) % 2;
+    let high = (p[HIGH + i] >> (mark / 32 % 32)) % 2;
+    (low == 1) & (high == 1)
+}
+
+// The set of marks of piece `k` gets the mark.
+pub fn add_mark(p: &mut [u32], s: usize, k: usize, mark: u32)
+    requires order { ⌜ Order (now p) s ⌝ }
+    requires here { ⌜ k < s ⌝ }
+    ensures is { λ _. ⌜ now (p .exit) ≡ noted (now (p .entry)) (slot (now (p .entry)) k) mark ⌝ }
+    ensures grown { λ _. ⌜ Grown (now (p .entry)) (now (p .exit)) ⌝ }
+    ensures has { λ _. ⌜ Has (now (p .exit)) (slot (now (p .entry)) k) mark ⌝ }
+{
+    let i = p[k] as usize;
+    note(p, i, mark);
+}
+
+// Makes the set of marks of piece `k` anew: it then has the marks of its cells, and no others.
+pub fn remark(c: &[u32], p: &mut [u32], s: usize, k: usize)
+    requires store { ⌜ Store (now c) (now p) s ⌝ }
+    requires here { ⌜ k < s ⌝ }
+    ensures is { λ _. ⌜ now (p .exit) ≡ noted-cells (with-set (now (p .entry)) (slot (now (p .entry)) k) 0 0) (slot (now (p .entry)) k) (piece (now (c .entry)) (now (p .entry)) k) ⌝ }
+    ensures beside { λ _. ⌜ Beside (now (p .entry)) (now (p .exit)) ⌝ }
+    ensures store { λ _. ⌜ Store (now (c .entry)) (now (p .exit)) s ⌝ }
+{
+    let i = p[k] as usize;
+    let n = used(p, k);
+    p[LOW + i] = 0;
+    p[HIGH + i] = 0;
+    note_cells(p, i, c, CELLS * i, n);
 }
 
 // Puts letters into the text at `place`: new cells in one style, put in by one change.
@@ -165,12 +215,12 @@ pub fn remove(c: &mut [u32], p: &mut [u32], s: usize, place: usize, n: usize)
     }
 }
 
-// Makes an empty text in `s` slots. Every word of the slots, the order and the tree is known afterwards.
+// Makes an empty text in `s` slots. Every word of the slots, the order, the tree and the sets is known afterwards.
 pub fn clear(c: &mut [u32], p: &mut [u32], s: usize)
     requires some { ⌜ 0 < s ⌝ }
     requires most { ⌜ s ≤ 2048 ⌝ }
     requires cells { ⌜ 4096 * s ≤ length (now c) ⌝ }
-    requires words { ⌜ 6144 ≤ length (now p) ⌝ }
+    requires words { ⌜ 10240 ≤ length (now p) ⌝ }
     ensures cells { λ _. ⌜ now (c .exit) ≡ cleared-cells (now (c .entry)) s ⌝ }
     ensures words { λ _. ⌜ now (p .exit) ≡ cleared-words (now (p .entry)) s ⌝ }
     ensures store { λ _. ⌜ Store (now (c .exit)) (now (p .exit)) s ⌝ }
@@ -222,15 +272,7 @@ fn gap(p: &[u32], s: usize, place: usize) -> Spot
 }
 
 // Puts the cells in at a gap. If they do not fit the piece there, it is cut at the gap, which takes the last piece.
-fn insert_at(
-    c: &mut [u32],
-    p: &mut [u32],
-    s: usize,
-    spot: Spot,
-    new: &[u32],
-    from: usize,
-    n: usize,
-)
+fn insert_at(c: &mut [u32], p: &mut [u32], s: usize, spot: Spot, new: &[u32], from: usize, n: usize)
     requires store { ⌜ Store (now c) (now p) s ⌝ }
     requires here { ⌜ spot .piece < s ⌝ }
     requires within { ⌜ spot .offset ≤ uses (now p) (spot .piece) ⌝ }
@@ -296,6 +338,45 @@ fn recount(p: &mut [u32], s: usize)
     ensures sums { λ _. ⌜ Sums (drop 2048 (now (p .exit))) ⌝ }
 {
     tree::rebuild(&mut p[TREE..]);
+}
+
+// The set of marks of slot `i` gets the mark.
+fn note(p: &mut [u32], i: usize, mark: u32)
+    requires inside { ⌜ i < 2048 ⌝ }
+    requires words { ⌜ 10240 ≤ length (now p) ⌝ }
+    ensures { λ _. ⌜ now (p .exit) ≡ noted (now (p .entry)) i mark ⌝ }
+{
+    let low = p[LOW + i] | (1 << (mark % 32));
+    let high = p[HIGH + i] | (1 << (mark / 32 % 32));
+    p[LOW + i] = low;
+    p[HIGH + i] = high;
+}
+
+// The set of slot `i` gets the marks of `n` cells of `c`, from number `from` on.
+fn note_cells(p: &mut [u32], i: usize, c: &[u32], from: usize, n: usize)
+    requires inside { ⌜ i < 2048 ⌝ }
+    requires words { ⌜ 10240 ≤ length (now p) ⌝ }
+    requires source { ⌜ 4 * (from + n) ≤ length (now c) ⌝ }
+    ensures { λ _. ⌜ now (p .exit) ≡ noted-cells (now (p .entry)) i (cellsAt (now (c .entry)) from n) ⌝ }
+{
+    for j in 0..n {
+        let cell = slots::read(c, from + j);
+        note(p, i, cell.put_in);
+        note(p, i, cell.struck);
+    }
+}
+
+// The set of slot `a` gets the marks of that of slot `b`.
+fn join(p: &mut [u32], a: usize, b: usize)
+    requires target { ⌜ a < 2048 ⌝ }
+    requires source { ⌜ b < 2048 ⌝ }
+    requires words { ⌜ 10240 ≤ length (now p) ⌝ }
+    ensures { λ _. ⌜ Joined (now (p .entry)) (now (p .exit)) a b ⌝ }
+{
+    let low = p[LOW + a] | p[LOW + b];
+    let high = p[HIGH + a] | p[HIGH + b];
+    p[LOW + a] = low;
+    p[HIGH + a] = high;
 }
 
 // Makes room for the cells in the slot of piece `k`, from its cell `o` on, and writes them there.
@@ -365,10 +446,13 @@ fn insert_here(
     requires fits { ⌜ uses (now p) k + n ≤ 1024 ⌝ }
     ensures changed { λ _. ⌜ Changed (now (c .entry)) (now (p .entry)) (now (c .exit)) (now (p .exit)) s k (replaced (piece (now (c .entry)) (now (p .entry)) k) o 0 (cellsAt (now (new .entry)) from n)) ⌝ }
     ensures sums { λ _. ⌜ Sums (drop 2048 (now (p .exit))) ⌝ }
+    ensures marks { λ _. ⌜ All (Marks (now (p .exit)) (slot (now (p .exit)) k)) (cellsAt (now (new .entry)) from n) ⌝ }
 {
     insert_cells(c, p, s, k, o, new, from, n);
     let more = used(p, k) + n;
     resize(p, k, more);
+    let i = p[k] as usize;
+    note_cells(p, i, new, from, n);
 }
 
 // Takes `n` cells out of piece `k`, from its cell `o` on.
@@ -395,9 +479,12 @@ fn shift(c: &mut [u32], p: &mut [u32], s: usize, i: usize, j: usize, o: usize, n
     requires fits { ⌜ uses (now p) i + n ≤ 1024 ⌝ }
     ensures { λ _. ⌜ Shifted (now (c .entry)) (now (p .entry)) (now (c .exit)) (now (p .exit)) s i j o n ⌝ }
 {
+    let target = p[i] as usize;
+    let source = p[j] as usize;
     append_cells(c, p, s, i, j, o, n);
     let more = used(p, i) + n;
     set_length(p, i, more);
+    join(p, target, source);
     remove_cells(c, p, s, j, o, n);
     let left = used(p, j) - n;
     set_length(p, j, left);

@@ -29,7 +29,7 @@ insert-at-requires-2 c κs =
     let small = c .pre .store .table .order .small (c .gap-spot .result .piece) (c .gap-spot .ensures .here) in
     let f = c .pre .fits in
     record {
-      store = store-after (c .args .c .now) (c .args .p .now) (c .repack .last .c) (c .repack .last .p) (c .args .s) (c .pre .store) (h .frame) (h .order) (c .repack .ensures .sums);
+      store = store-after (c .args .c .now) (c .args .p .now) (c .repack .last .c) (c .repack .last .p) (c .args .s) (c .pre .store) (h .frame) (h .order) (c .repack .ensures .sums) (h .marked (c .pre .store .marked));
       here = c .gap-spot-2 .ensures .here;
       within = c .gap-spot-2 .ensures .within;
       source = c .pre .source;

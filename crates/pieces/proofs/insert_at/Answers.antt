@@ -4,6 +4,7 @@ use native.Mathlib.Omega.{arith}
 use Rattle.slots.specs.Cells.{cellsAt}
 use Rattle.pieces.specs.Store.{used, before, cells-of, Store}
 use Rattle.pieces.specs.Edits.{replaced}
+use Rattle.pieces.proofs.Change.{changed-marked}
 use Rattle.pieces.proofs.Cuts.{used-from}
 use Rattle.pieces.proofs.Edit.{edited, edited-as, inserted-twice, store-after, not-last, halves}
 use Rattle.pieces.proofs.insert_at.Needs as need
@@ -11,7 +12,7 @@ use Rattle.pieces.proofs.insert_at.Needs as need
 pub returns-then-used-n-le-CELLS : need.returns-then-used-n-le-CELLS
 returns-then-used-n-le-CELLS c =
     edited (c .args .c .now) (c .args .p .now) (c .insert-here .last .c) (c .insert-here .last .p) (c .args .s) (c .args .spot .piece) (c .args .spot .offset) 0
-    (cellsAt (c .args .new .now) (c .args .from) (c .args .n)) (c .pre .store) (c .pre .here) (omega arith) (c .insert-here .ensures .changed) (c .insert-here .ensures .sums)
+    (cellsAt (c .args .new .now) (c .args .from) (c .args .n)) (c .pre .store) (c .pre .here) (omega arith) (c .insert-here .ensures .changed) (c .insert-here .ensures .sums) (c .insert-here .ensures .marks)
 
 pub split-requires : need.split-requires
 split-requires c κs =
@@ -25,7 +26,8 @@ insert-here-requires-2 c κs =
     let o = h .here in
     let w = c .pre .within in
     record {
-      store = store-after (c .args .c .now) (c .args .p .now) (c .split .last .c) (c .split .last .p) (c .args .s) (c .pre .store) (h .same .frame) (h .same .order) (c .split .ensures .sums);
+      store = store-after (c .args .c .now) (c .args .p .now) (c .split .last .c) (c .split .last .p) (c .args .s) (c .pre .store) (h .same .frame) (h .same .order) (c .split .ensures .sums)
+          (h .same .marked (c .pre .store .marked));
       here = c .pre .here;
       within = omega arith;
       source = omega (arith, c .pre .source);
@@ -42,11 +44,14 @@ insert-here-requires-3 c κs =
     let o = h .here in
     let w = c .pre .within in
     let l : k + 1 < s = not-last (c .args .p .now) s k (c .pre .here) (c .pre .spare (omega arith)) (omega arith) in
-    let st = store-after (c .args .c .now) (c .args .p .now) (c .split .last .c) (c .split .last .p) s (c .pre .store) (h .same .frame) (h .same .order) (c .split .ensures .sums) in
+    let st = store-after (c .args .c .now) (c .args .p .now) (c .split .last .c) (c .split .last .p) s (c .pre .store) (h .same .frame) (h .same .order) (c .split .ensures .sums)
+    (h .same .marked (c .pre .store .marked)) in
     let u = used-from (c .split .last .c) (c .split .last .p) (c .insert-here-2 .last .c) (c .insert-here-2 .last .p) (k + 1) (k + 1) (g .others (k + 1) l (omega arith)) in
     let v = h .next in
     record {
-      store = store-after (c .split .last .c) (c .split .last .p) (c .insert-here-2 .last .c) (c .insert-here-2 .last .p) s st (g .frame) (g .order) (c .insert-here-2 .ensures .sums);
+      store = store-after (c .split .last .c) (c .split .last .p) (c .insert-here-2 .last .c) (c .insert-here-2 .last .p) s st (g .frame) (g .order) (c .insert-here-2 .ensures .sums)
+          (changed-marked (c .split .last .c) (c .split .last .p) (c .insert-here-2 .last .c) (c .insert-here-2 .last .p) s k (c .args .spot .offset) 0 _
+          (h .same .order) (c .pre .here) (h .same .marked (c .pre .store .marked)) g (c .insert-here-2 .ensures .marks));
       here = l;
       within = omega arith;
       source = omega (arith, c .pre .source);
@@ -68,4 +73,5 @@ returns c =
     rw (halves new from m n (omega arith)) at
     (inserted-twice (c .args .c .now) (c .args .p .now) (c .split .last .c) (c .split .last .p) (c .insert-here-2 .last .c) (c .insert-here-2 .last .p)
     (c .insert-here-3 .last .c) (c .insert-here-3 .last .p) s k o a b (c .pre .store) l (c .pre .within) (c .split .ensures .cut)
-    (c .insert-here-2 .ensures .changed) (c .insert-here-3 .ensures .changed) (c .insert-here-3 .ensures .sums))
+    (c .insert-here-2 .ensures .changed) (c .insert-here-3 .ensures .changed) (c .insert-here-3 .ensures .sums)
+    (c .insert-here-2 .ensures .marks) (c .insert-here-3 .ensures .marks))

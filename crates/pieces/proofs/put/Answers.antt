@@ -1,12 +1,14 @@
 use mathlib.Core.List.{_++_}
-use mathlib.Core.Path.{ap}
-use lib.ListN.{take, drop}
+use mathlib.Core.Path.{_≡_, ap}
+use lib.ListN.{take, drop, length}
+use Rattle.model.specs.Paper.{Cell, new-cells}
+use Rattle.slots.specs.Cells.{cellsAt}
 use Rattle.pieces.specs.Store.{cells-of}
-use Rattle.pieces.proofs.Edit.{edited-as}
+use Rattle.pieces.proofs.Edit.{put-as}
 use Rattle.pieces.proofs.put.Needs as need
 
 pub returns : need.returns
 returns c =
-    let t = cells-of (c .args .c .now) (c .args .p .now) (c .args .s) in
-    edited-as (c .args .c .now) (c .args .p .now) (c .insert .last .c) (c .insert .last .p) (c .args .s) _ _ (c .insert .ensures)
-    (ap (λ xs. take (c .args .place) t ++ (xs ++ drop (c .args .place) t)) (c .fill .ensures .filled))
+    put-as (c .args .c .now) (c .args .p .now) (c .insert .last .c) (c .insert .last .p) (c .args .s) (c .args .place)
+    (cellsAt (c .fill .last .c) 0 (length (c .args .letters .now))) (new-cells (c .args .letters .now) (c .args .style) (c .args .change))
+    (c .insert .ensures) (c .fill .ensures .filled)
