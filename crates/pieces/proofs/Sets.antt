@@ -13,8 +13,8 @@ use Rattle.std.specs.shelf.Lists.{All}
 use Rattle.std.proofs.shelf.Bits.{or-shr, or-comm, shl-shr, one-shl}
 use Rattle.std.proofs.shelf.Elements.{all-weaker, all-append, all-take, all-drop}
 use Rattle.std.proofs.shelf.Lists.{length-set, getD-set-same, getD-set-other, drop-set-lt, getD-drop, length-drop}
-use Rattle.std.proofs.shelf.Tests.{cases-eq, eq-eqb}
-use Rattle.model.specs.Paper.{Cell}
+use Rattle.std.proofs.shelf.Tests.{cases-eq, eq-eqb, ne-eqb}
+use Rattle.model.specs.Paper.{pick, Cell}
 use Rattle.tree.specs.Tree.{Sums}
 use Rattle.slots.specs.Cells.{cellAt, cellsAt}
 use Rattle.slots.proofs.Words.{cells-more}
@@ -88,24 +88,32 @@ joined p a b l w =
       both = λ m h. more-has p a (getD p (6144 + b) 0) (getD p (8192 + b) 0) l w m (h .low) (h .high);
     }
 
-pub noted-grown : (p : List ℕ) (i m : ℕ) → i < 2048 → 10240 ≤ length p → Grown p (noted p i m)
-noted-grown p i m = more-grown p i (2 ^ (m % 32)) (2 ^ (m / 32 % 32))
-
-pub noted-has : (p : List ℕ) (i m : ℕ) → i < 2048 → 10240 ≤ length p → Has (noted p i m) i m
-noted-has p i m l w = more-has p i (2 ^ (m % 32)) (2 ^ (m / 32 % 32)) l w m (bit-own (m % 32)) (bit-own (m / 32 % 32))
-
-pub noted-is : (p : List ℕ) (i m : ℕ)
-    → with-set p i (bitOr (getD p (6144 + i) 0) ((1 * 2 ^ (m % 32)) % 2 ^ 32)) (bitOr (getD p (8192 + i) 0) ((1 * 2 ^ (m / 32 % 32)) % 2 ^ 32)) ≡ noted p i m
-noted-is p i m =
-    let a = one-shl (m % 32) 32 (omega arith) in
-    let b = one-shl (m / 32 % 32) 32 (omega arith) in
-    rw (a, b)
-
 pub beside-none : (p : List ℕ) → Beside p p
 beside-none p = record { long = refl; below = λ w h. refl; past = refl }
 
 pub grown-none : (p : List ℕ) → Grown p p
 grown-none p = record { beside = beside-none p; has = λ i m l h. h }
+
+pub noted-grown : (p : List ℕ) (i m : ℕ) → i < 2048 → 10240 ≤ length p → Grown p (noted p i m)
+noted-grown p i m l w =
+    elim (cases-eq m 0) [
+      | inl e ↦ rw (eq-eqb m 0 e) (grown-none p)
+      | inr ne ↦ rw (ne-eqb m 0 ne) (more-grown p i (2 ^ (m % 32)) (2 ^ (m / 32 % 32)) l w)
+    ]
+
+pub noted-has : (p : List ℕ) (i m : ℕ) → i < 2048 → 10240 ≤ length p → 0 < m → Has (noted p i m) i m
+noted-has p i m l w some =
+    rw (ne-eqb m 0 (λ e. omega arith)) (more-has p i (2 ^ (m % 32)) (2 ^ (m / 32 % 32)) l w m (bit-own (m % 32)) (bit-own (m / 32 % 32)))
+
+pub noted-none : (p : List ℕ) (i m : ℕ) → m ≡ 0 → p ≡ noted p i m
+noted-none p i m e = rw (eq-eqb m 0 e)
+
+pub noted-is : (p : List ℕ) (i m : ℕ) → (m ≡ 0 → ⊥)
+    → with-set p i (bitOr (getD p (6144 + i) 0) ((1 * 2 ^ (m % 32)) % 2 ^ 32)) (bitOr (getD p (8192 + i) 0) ((1 * 2 ^ (m / 32 % 32)) % 2 ^ 32)) ≡ noted p i m
+noted-is p i m ne =
+    let a = one-shl (m % 32) 32 (omega arith) in
+    let b = one-shl (m / 32 % 32) 32 (omega arith) in
+    rw (a, b, ne-eqb m 0 ne)
 
 pub beside-both : (p q r : List ℕ) → Beside p q → Beside q r → Beside p r
 beside-both p q r g h = record { long = h .long ∙ g .long; below = λ w l. h .below w l ∙ g .below w l; past = h .past ∙ g .past }
@@ -145,8 +153,8 @@ cells-noted p i (x ∷ xs) l w =
       grown-both p q t g (grown-both q r t h k),
       (
         record {
-          put-in = k .has i (x .put-in) l (h .has i (x .put-in) l (noted-has p i (x .put-in) l w));
-          struck = k .has i (x .struck) l (noted-has q i (x .struck) l w′);
+          put-in = λ some. k .has i (x .put-in) l (h .has i (x .put-in) l (noted-has p i (x .put-in) l w some));
+          struck = λ some. k .has i (x .struck) l (noted-has q i (x .struck) l w′ some);
         },
         rest .1,
       ),
@@ -164,14 +172,14 @@ pub cell-noted : (p q r : List ℕ) (k : ℕ) (x : Cell) → k < 2048 → getD p
     → q ≡ noted p (getD p k 0) (x .put-in) → r ≡ noted q (getD p k 0) (x .struck) → Grown p r × Marks r (getD r k 0) x
 unfolding noted-cells
 cell-noted p q r k x a l w e f =
-    let g : r ≡ noted-cells p (getD p k 0) (x ∷ []) = cc in
+    let g : r ≡ noted-cells p (getD p k 0) (x ∷ []) = f ∙ ap (λ z. noted z (getD p k 0) (x .struck)) e in
     let h = piece-noted p r k (x ∷ []) a l w g in
     (h .0, h .1 .0)
 
 -- what a set that has grown, or one that has taken over another, has
 pub marks-moved : (p q : List ℕ) (i j : ℕ) (xs : List Cell) → ((m : ℕ) → Has p i m → Has q j m) → All (Marks p i) xs → All (Marks q j) xs
 marks-moved p q i j xs h all =
-    all-weaker (Marks p i) (Marks q j) (λ x m. record { put-in = h (x .put-in) (m .put-in); struck = h (x .struck) (m .struck) }) xs all
+    all-weaker (Marks p i) (Marks q j) (λ x m. record { put-in = λ l. h (x .put-in) (m .put-in l); struck = λ l. h (x .struck) (m .struck l) }) xs all
 
 -- a set without the mark
 pub has-not : (p : List ℕ) (i m : ℕ) → has p i m ≡ false → Has p i m → ⊥
@@ -184,9 +192,15 @@ has-not p i m e h =
     true-false : true ≡ false → ⊥
     true-false e = let z : _≡_ {A = ℕ} 0 1 = cc in omega arith
 
-pub lacks : (p : List ℕ) (i m : ℕ) (xs : List Cell) → has p i m ≡ false → All (Marks p i) xs → All (Lacks m) xs
-lacks p i m xs e all =
-    all-weaker (Marks p i) (Lacks m) (λ x h. record { put-in = λ f. has-not p i m e (rw f at (h .put-in)); struck = λ f. has-not p i m e (rw f at (h .struck)) }) xs all
+pub lacks : (p : List ℕ) (i m : ℕ) (xs : List Cell) → 0 < m → has p i m ≡ false → All (Marks p i) xs → All (Lacks m) xs
+lacks p i m xs some e all =
+    all-weaker (Marks p i) (Lacks m)
+    (λ x h.
+    record {
+      put-in = λ f. has-not p i m e (rw f at (h .put-in (omega arith)));
+      struck = λ f. has-not p i m e (rw f at (h .struck (omega arith)));
+    })
+    xs all
 
 -- the tree does not change with the sets
 pub sums-beside : (p q : List ℕ) → Beside p q → Sums (drop 2048 p) → Sums (drop 2048 q)

@@ -1,5 +1,5 @@
 -- The set of marks of a slot: two words. The mark m stands for bit m % 32 of the first and bit m / 32 % 32 of the second, so that a set which lacks one of
--- the two bits does not have the mark. Mark 0, which stands for none, is treated like the others.
+-- the two bits does not have the mark. Mark 0 stands for none, and is in no set.
 use mathlib.Core.Path.{_≡_}
 use mathlib.Core.Logic.{_≢_}
 use mathlib.Core.Bool.{Bool, _&&_}
@@ -8,7 +8,7 @@ use Prim.Native.Nat.{ℕ, _+_, _*_, _/_, _%_, _^_, _<_}
 use lib.Dec.{eqb}
 use lib.Bits.{bitOr}
 use lib.ListN.{length, getD, set, drop}
-use Rattle.model.specs.Paper.{Cell}
+use Rattle.model.specs.Paper.{pick, Cell}
 
 -- bit j of the word w is set
 abbrev pub Bit : ℕ → ℕ → Type 0
@@ -25,8 +25,8 @@ has p i m = eqb (getD p (6144 + i) 0 / 2 ^ (m % 32) % 2) 1 && eqb (getD p (8192 
 
 -- the set of slot i has both marks of the cell
 pub record Marks (p : List ℕ) (i : ℕ) (x : Cell) : Type 0 where
-  pub put-in : Has p i (x .put-in)
-  pub struck : Has p i (x .struck)
+  pub put-in : 0 < x .put-in → Has p i (x .put-in)
+  pub struck : 0 < x .struck → Has p i (x .struck)
 
 -- neither mark of the cell is m
 pub record Lacks (m : ℕ) (x : Cell) : Type 0 where
@@ -37,9 +37,9 @@ pub record Lacks (m : ℕ) (x : Cell) : Type 0 where
 abbrev pub with-set : List ℕ → ℕ → ℕ → ℕ → List ℕ
 with-set p i low high = set (set p (6144 + i) low) (8192 + i) high
 
--- the set of slot i with the mark m added
+-- the set of slot i with the mark m added, if it is one
 abbrev pub noted : List ℕ → ℕ → ℕ → List ℕ
-noted p i m = with-set p i (bitOr (getD p (6144 + i) 0) (2 ^ (m % 32))) (bitOr (getD p (8192 + i) 0) (2 ^ (m / 32 % 32)))
+noted p i m = pick (eqb m 0) p (with-set p i (bitOr (getD p (6144 + i) 0) (2 ^ (m % 32))) (bitOr (getD p (8192 + i) 0) (2 ^ (m / 32 % 32))))
 
 -- with all marks of the cells added
 unfoldable pub noted-cells : List ℕ → ℕ → List Cell → List ℕ

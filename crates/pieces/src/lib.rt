@@ -116,6 +116,7 @@ pub fn overwrite(c: &mut [u32], p: &mut [u32], s: usize, k: usize, o: usize, cel
 pub fn may_have(p: &[u32], s: usize, k: usize, mark: u32) -> bool
     requires order { ⌜ Order (now p) s ⌝ }
     requires here { ⌜ k < s ⌝ }
+    requires some { ⌜ 0 < mark ⌝ }
     ensures is { λ r. ⌜ r ≡ has (now (p .entry)) (slot (now (p .entry)) k) mark ⌝ }
     ensures lacks { λ r. ⌜ (r ≡ false → (c : List ℕ) → Store c (now (p .entry)) s → All (Lacks mark) (piece c (now (p .entry)) k)) ⌝ }
 {
@@ -129,6 +130,7 @@ pub fn may_have(p: &[u32], s: usize, k: usize, mark: u32) -> bool
 pub fn add_mark(p: &mut [u32], s: usize, k: usize, mark: u32)
     requires order { ⌜ Order (now p) s ⌝ }
     requires here { ⌜ k < s ⌝ }
+    requires some { ⌜ 0 < mark ⌝ }
     ensures is { λ _. ⌜ now (p .exit) ≡ noted (now (p .entry)) (slot (now (p .entry)) k) mark ⌝ }
     ensures grown { λ _. ⌜ Grown (now (p .entry)) (now (p .exit)) ⌝ }
     ensures has { λ _. ⌜ Has (now (p .exit)) (slot (now (p .entry)) k) mark ⌝ }
@@ -340,12 +342,15 @@ fn recount(p: &mut [u32], s: usize)
     tree::rebuild(&mut p[TREE..]);
 }
 
-// The set of marks of slot `i` gets the mark.
+// The set of marks of slot `i` gets the mark, if it is one.
 fn note(p: &mut [u32], i: usize, mark: u32)
     requires inside { ⌜ i < 2048 ⌝ }
     requires words { ⌜ 10240 ≤ length (now p) ⌝ }
     ensures { λ _. ⌜ now (p .exit) ≡ noted (now (p .entry)) i mark ⌝ }
 {
+    if mark == 0 {
+        return;
+    }
     let low = p[LOW + i] | (1 << (mark % 32));
     let high = p[HIGH + i] | (1 << (mark / 32 % 32));
     p[LOW + i] = low;

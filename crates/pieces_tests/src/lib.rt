@@ -146,7 +146,7 @@ mod tests {
     #[test]
     fn edits() -> Result<(), Fail> {
         let mut c = [7; 20480];
-        let mut p = [7; 6144];
+        let mut p = [7; 10240];
         let none = Cell {
             letter: 0,
             style: 0,

@@ -19,4 +19,4 @@ returns c =
     let i = slot p (c .args .k) in
     let l : i < 2048 = omega arith in
     let e = c .note .ensures in
-    record { is = e; grown = rw e (noted-grown p i (c .args .mark) l (c .pre .order .words)); has = rw e (noted-has p i (c .args .mark) l (c .pre .order .words)) }
+    record { is = e; grown = rw e (noted-grown p i (c .args .mark) l (c .pre .order .words)); has = rw e (noted-has p i (c .args .mark) l (c .pre .order .words) (c .pre .some)) }

@@ -7,5 +7,5 @@ pub returns : need.returns
 returns c =
     record {
       is = refl;
-      lacks = λ e d t. lacks (c .args .p .now) (slot (c .args .p .now) (c .args .k)) (c .args .mark) (piece d (c .args .p .now) (c .args .k)) e (t .marked (c .args .k) (c .pre .here));
+      lacks = λ e d t. lacks (c .args .p .now) (slot (c .args .p .now) (c .args .k)) (c .args .mark) (piece d (c .args .p .now) (c .args .k)) (c .pre .some) e (t .marked (c .args .k) (c .pre .here));
     }
