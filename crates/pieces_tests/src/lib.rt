@@ -14,7 +14,7 @@ mod tests {
     // As many cells as five slots take for sure.
     const MOST: usize = 3072;
 
-    // The store holds the first `n` cells of the row.
+    // The store holds the first `n` cells of the row, and their marks are in the sets.
     fn same(c: &[u32], p: &[u32], row: &[Cell], n: usize) -> Result<(), Fail>
         requires { ⌜ Store (now c) (now p) 5 ⌝ }
     {
@@ -27,6 +27,12 @@ mod tests {
             check(cell.style == row[place].style)?;
             check(cell.put_in == row[place].put_in)?;
             check(cell.struck == row[place].struck)?;
+            if cell.put_in > 0 {
+                check(pieces::may_have(p, SLOTS, spot.piece, cell.put_in))?;
+            }
+            if cell.struck > 0 {
+                check(pieces::may_have(p, SLOTS, spot.piece, cell.struck))?;
+            }
         }
         Ok(())
     }
