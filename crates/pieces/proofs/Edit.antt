@@ -1,20 +1,19 @@
 -- From the steps of an edit to what it does to the text.
 use mathlib.Core.Path.{_≡_, refl, sym, ap, _∙_}
-use mathlib.Core.Logic.{_≢_, inl, inr}
+use mathlib.Core.Logic.{inl, inr}
 use mathlib.Core.List.{List, [], _∷_, _++_}
-use Prim.Native.Nat.{ℕ, zero, suc, _+_, _-_, _*_, _≤_, _<_}
-use native.Mathlib.Nat.{zero-add, add-zero, add-assoc}
+use Prim.Native.Nat.{ℕ, _+_, _-_, _*_, _≤_, _<_}
 use native.Mathlib.Numerals.{add-one}
 use native.Mathlib.Omega.{arith}
-use lib.ListN.{length, getD, take, drop, set}
-use Rattle.std.proofs.shelf.Lists.{append-assoc, length-append, length-drop, length-take-le, take-append-drop, take-at, drop-at, drop-drop, set-split, take-rest}
+use lib.ListN.{length, take, drop, set}
+use Rattle.std.proofs.shelf.Lists.{append-assoc, length-append, length-take-le, take-append-drop, take-at, drop-at, drop-drop, set-split, take-rest}
 use Rattle.std.proofs.shelf.Tests.{cases-lt}
 use Rattle.model.specs.Paper.{Cell, new-cells}
-use Rattle.slots.specs.Cells.{cellAt, cellsAt, Kept}
+use Rattle.slots.specs.Cells.{cellAt, Kept}
 use Rattle.slots.proofs.Words.{new-cells-append}
 use Rattle.tree.specs.Tree.{Sums}
-use Rattle.pieces.specs.Store.{slot, used, piece, strung, cells-of, before, Order, Table, Store, Frame, Edited}
-use Rattle.pieces.specs.Edits.{replaced, Filled, Resized, Changed, Same-text, Cut}
+use Rattle.pieces.specs.Store.{slot, used, piece, cells-of, before, Order, Store, Frame, Edited}
+use Rattle.pieces.specs.Edits.{replaced, Resized, Changed, Cut}
 use Rattle.pieces.proofs.Texts.{length-piece, length-text, before-more, before-within}
 use Rattle.pieces.proofs.Change.{changed-text, length-replaced, replaced-here, frame-both, frame-none}
 use Rattle.pieces.proofs.Cells.{overwritten}

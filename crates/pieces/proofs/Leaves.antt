@@ -1,17 +1,15 @@
 -- What a change of a length does to the words of the order and the tree.
-use mathlib.Core.Path.{_≡_, refl, sym, ap, _∙_}
+use mathlib.Core.Path.{_≡_, sym, ap, _∙_}
 use mathlib.Core.Logic.{_≢_}
-use mathlib.Core.List.{List, [], _∷_, _++_}
-use Prim.Native.Nat.{ℕ, zero, suc, _+_, _-_, _*_, _≤_, _<_}
+use mathlib.Core.List.{List, _++_}
+use Prim.Native.Nat.{ℕ, _+_, _-_, _≤_, _<_}
 use native.Mathlib.Omega.{arith}
 use borrow.Rule.Slice.PartMut.{putMid}
 use lib.ListN.{length, getD, take, drop, set}
 use Rattle.std.proofs.shelf.Lists.{take-rest, length-set, length-append, length-drop, length-take-le, getD-set-same, getD-set-other, getD-append-left, getD-take, drop-drop, drop-set-lt}
-use Rattle.tree.specs.Tree.{Sums}
 use Rattle.tree.proofs.Part.{lent-back, lent-word}
-use Rattle.pieces.specs.Store.{slot, used, Order}
+use Rattle.pieces.specs.Store.{used}
 use Rattle.pieces.specs.Edits.{Resized}
-use Rattle.pieces.proofs.Counts.{leaf-used}
 
 -- one leaf is written
 pub set-resized : (p : List ℕ) (k n : ℕ) → k < 2048 → 6144 ≤ length p → Resized p (set p (4096 + k) n) k n

@@ -2,12 +2,12 @@
 -- on a tree of counts, whose leaf k, word 4096 + k, says how many cells piece k has: they stand at the front of its slot. Every slot is a piece, so
 -- that one which is not used has no cells. The text is all pieces, one after the other.
 use mathlib.Core.Path.{_≡_}
-use mathlib.Core.List.{List, [], _∷_, _++_}
+use mathlib.Core.List.{List, [], _++_}
 use Prim.Native.Nat.{ℕ, zero, suc, _+_, _-_, _*_, _≤_, _<_}
 use lib.ListN.{length, getD, drop, replicate}
 use Rattle.std.specs.Iters.{counting}
 use Rattle.model.specs.Paper.{Cell}
-use Rattle.slots.specs.Cells.{cellAt, cellsAt}
+use Rattle.slots.specs.Cells.{cellsAt}
 use Rattle.tree.specs.Tree.{Sums}
 
 -- the slot of piece k

@@ -32,13 +32,26 @@ mod tests {
     }
 
     // Puts letters into the store and into the row. Returns how many cells there are then.
-    fn put(c: &mut [u32], p: &mut [u32], row: &mut [Cell], place: usize, letters: &[u8], change: u32) -> Result<usize, Fail>
+    fn put(
+        c: &mut [u32],
+        p: &mut [u32],
+        row: &mut [Cell],
+        place: usize,
+        letters: &[u8],
+        change: u32,
+    ) -> Result<usize, Fail>
         requires { ⌜ Store (now c) (now p) 5 ⌝ }
         ensures { λ _. ⌜ Store (now (c .exit)) (now (p .exit)) 5 ⌝ }
     {
         let n = pieces::count(p, SLOTS);
         let more = letters.len();
-        if more > 1024 || n > MOST || n + more > MOST || place > n || change > 1000 || MOST > row.len() {
+        if more > 1024
+            || n > MOST
+            || n + more > MOST
+            || place > n
+            || change > 1000
+            || MOST > row.len()
+        {
             return Err(Fail::new("no room"));
         }
         pieces::put(c, p, SLOTS, place, letters, 3, change);
@@ -55,7 +68,13 @@ mod tests {
     }
 
     // Takes `m` cells out of the store and out of the row. Returns how many cells there are then.
-    fn remove(c: &mut [u32], p: &mut [u32], row: &mut [Cell], place: usize, m: usize) -> Result<usize, Fail>
+    fn remove(
+        c: &mut [u32],
+        p: &mut [u32],
+        row: &mut [Cell],
+        place: usize,
+        m: usize,
+    ) -> Result<usize, Fail>
         requires { ⌜ Store (now c) (now p) 5 ⌝ }
         ensures { λ _. ⌜ Store (now (c .exit)) (now (p .exit)) 5 ⌝ }
     {
@@ -69,7 +88,13 @@ mod tests {
     }
 
     // Writes one cell of the store and of the row.
-    fn overwrite(c: &mut [u32], p: &mut [u32], row: &mut [Cell], place: usize, cell: Cell) -> Result<(), Fail>
+    fn overwrite(
+        c: &mut [u32],
+        p: &mut [u32],
+        row: &mut [Cell],
+        place: usize,
+        cell: Cell,
+    ) -> Result<(), Fail>
         requires { ⌜ Store (now c) (now p) 5 ⌝ }
         ensures { λ _. ⌜ Store (now (c .exit)) (now (p .exit)) 5 ⌝ }
     {

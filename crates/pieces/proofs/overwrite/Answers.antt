@@ -1,4 +1,3 @@
-use mathlib.Core.Path.{_≡_, ap, sym, _∙_}
 use Rattle.model.specs.Values.{cell-of}
 use Rattle.pieces.proofs.Edit.{written}
 use Rattle.pieces.proofs.overwrite.Needs as need
