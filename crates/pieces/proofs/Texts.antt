@@ -6,7 +6,7 @@ use native.Mathlib.Nat.{add-zero, add-suc}
 use native.Mathlib.Numerals.{add-one}
 use native.Mathlib.Omega.{arith}
 use lib.ListN.{length, getD, drop}
-use Rattle.std.proofs.shelf.Lists.{length-append, drop-more, getD-drop, drop-all}
+use Rattle.std.proofs.shelf.Lists.{length-append, drop-more, getD-drop}
 use Rattle.slots.specs.Cells.{cellAt}
 use Rattle.slots.proofs.Words.{length-cells, getD-cells}
 use Rattle.pieces.specs.Store.{slot, used, number, piece, strung, cells-of, before, no-cell}
@@ -72,10 +72,6 @@ drop-text-more c p s k j l m =
 -- the next piece begins where piece k ends
 pub drop-text-next : (c p : List ℕ) (s k : ℕ) → drop (before p (k + 1) + 0) (cells-of c p s) ≡ drop (before p k + used p k) (cells-of c p s)
 drop-text-next c p s k = rw (add-zero, before-more)
-
--- after the last piece nothing is left
-pub drop-text-end : (c p : List ℕ) (s : ℕ) → drop (before p s) (cells-of c p s) ≡ []
-drop-text-end c p s = let e = length-text c p s in drop-all (before p s) (cells-of c p s) (omega arith)
 
 -- cell j of piece k stands at its place in the text
 pub text-at : (c p : List ℕ) (s k j : ℕ) → k < s → j < used p k → getD (cells-of c p s) (before p k + j) no-cell ≡ cellAt c (number p k j)
