@@ -14,10 +14,13 @@ ghost use Rattle.model.specs.Paper.{new-cells};
 ghost use Rattle.tree.specs.Tree.{Sums};
 use model::Cell;
 
+// How many cells a slot takes.
 const CELLS: usize = 1024;
 
+// How many cells a piece gets when pieces are packed: room is left, so that not every put cuts a piece.
 const FULL: usize = 768;
 
+// The words of `p` where the tree begins, where its leaves begin, and where it ends.
 const TREE: usize = 2048;
 
 const LEAVES: usize = 4096;
