@@ -1,12 +1,11 @@
 -- From the steps of an edit to one piece, and from one piece to the text.
 use mathlib.Core.Path.{_≡_, refl, sym, ap, _∙_}
 use mathlib.Core.Logic.{_≢_, inl, inr}
-use mathlib.Core.List.{List, [], _∷_, _++_}
-use Prim.Native.Nat.{ℕ, zero, suc, _+_, _-_, _*_, _≤_, _<_}
-use native.Mathlib.Nat.{add-zero, zero-add, add-suc, suc-add}
+use mathlib.Core.List.{List, [], _++_}
+use Prim.Native.Nat.{ℕ, suc, _+_, _-_, _*_, _≤_, _<_}
 use native.Mathlib.Omega.{arith}
-use lib.ListN.{length, getD, take, drop}
-use Rattle.std.proofs.shelf.Lists.{append-assoc, append-nil, length-append, length-take-le, length-drop, take-append-drop}
+use lib.ListN.{length, take, drop}
+use Rattle.std.proofs.shelf.Lists.{append-assoc, length-append, length-take-le, length-drop}
 use Rattle.std.proofs.shelf.Tests.{cases-order, cases-eq}
 use Rattle.model.specs.Paper.{Cell, new-cells}
 use Rattle.slots.specs.Cells.{cellAt, cellsAt, Kept}
@@ -16,7 +15,7 @@ use Rattle.std.proofs.shelf.Elements.{all-append, all-take, all-drop}
 use Rattle.pieces.specs.Marks.{Has, Marks, Grown}
 use Rattle.pieces.specs.Store.{slot, used, piece, strung, cells-of, before, Marked, Order, Frame}
 use Rattle.pieces.specs.Edits.{replaced, Filled, Resized, Changed, Shifted}
-use Rattle.pieces.proofs.Strung.{strung-same, strung-none, strung-at, strung-split, take-within, drop-within}
+use Rattle.pieces.proofs.Strung.{strung-same, strung-at, take-within, drop-within}
 use Rattle.pieces.proofs.Texts.{length-piece, length-before}
 use Rattle.pieces.proofs.Sets.{marks-moved}
 

@@ -1,14 +1,13 @@
 -- A store that has just been cleared.
-use mathlib.Core.Path.{_≡_, refl, sym, ap, _∙_}
+use mathlib.Core.Path.{_≡_, sym, ap, _∙_}
 use mathlib.Core.List.{List, [], _∷_, _++_}
 use Prim.Native.Nat.{ℕ, zero, suc, _+_, _-_, _*_, _≤_, _<_}
-use native.Mathlib.Nat.{add-zero, zero-add, add-suc, suc-add}
+use native.Mathlib.Nat.{add-zero, zero-add, suc-add}
 use native.Mathlib.Omega.{arith}
-use lib.ListN.{length, getD, take, drop, set, replicate}
+use lib.ListN.{length, getD, drop, set, replicate}
 use Rattle.std.specs.Iters.{counting}
 use Rattle.std.proofs.shelf.Counted.{length-counting, getD-counting}
 use Rattle.std.proofs.shelf.Lists.{getD-append-left, getD-append-right, getD-replicate, length-replicate, length-append, length-drop, set-at, drop-more, drop-append-le, drop-replicate, append-assoc, getD-drop}
-use Rattle.tree.specs.Tree.{Sums}
 use Rattle.slots.specs.Cells.{cellsAt}
 use Rattle.pieces.specs.Store.{slot, used, piece, cells-of, before, cleared-cells, cleared-words, Marked, Order, Table, Store}
 use Rattle.pieces.proofs.Strung.{strung-none}

@@ -1,12 +1,11 @@
 -- A piece that is cut in two: the last slot is rotated into place, and takes the cells behind the cut.
 use mathlib.Core.Path.{_≡_, refl, sym, ap, _∙_}
 use mathlib.Core.Logic.{_≢_, _⊎_, inl, inr}
-use mathlib.Core.List.{List, [], _∷_, _++_}
-use Prim.Native.Nat.{ℕ, zero, suc, _+_, _-_, _*_, _≤_, _<_}
-use native.Mathlib.Nat.{add-zero, zero-add, add-suc, suc-add}
+use mathlib.Core.List.{List, [], _++_}
+use Prim.Native.Nat.{ℕ, zero, suc, _+_, _-_, _≤_, _<_}
 use native.Mathlib.Omega.{arith}
 use lib.ListN.{length, getD, take, drop, set}
-use Rattle.std.proofs.shelf.Lists.{append-assoc, append-nil, length-append, length-set, length-drop, take-append-drop, take-all, length-take-le, drop-all, drop-set-lt, getD-set-same, getD-set-other, ext-getD, getD-drop}
+use Rattle.std.proofs.shelf.Lists.{append-assoc, append-nil, length-set, length-drop, take-append-drop, take-all, length-take-le, drop-all, getD-set-same, getD-set-other, ext-getD, getD-drop}
 use Rattle.std.proofs.shelf.Tests.{cases-eq, cases-order}
 use Rattle.model.specs.Paper.{Cell, new-cells}
 use Rattle.slots.specs.Cells.{cellAt, cellsAt, Kept}

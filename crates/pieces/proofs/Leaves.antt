@@ -1,8 +1,8 @@
 -- What a change of a length does to the words of the order and the tree.
-use mathlib.Core.Path.{_≡_, refl, sym, ap, _∙_}
+use mathlib.Core.Path.{_≡_, sym, ap, _∙_}
 use mathlib.Core.Logic.{_≢_}
-use mathlib.Core.List.{List, [], _∷_, _++_}
-use Prim.Native.Nat.{ℕ, zero, suc, _+_, _-_, _*_, _≤_, _<_}
+use mathlib.Core.List.{List, _++_}
+use Prim.Native.Nat.{ℕ, _+_, _-_, _≤_, _<_}
 use native.Mathlib.Omega.{arith}
 use borrow.Rule.Slice.PartMut.{putMid}
 use lib.ListN.{length, getD, take, drop, set}
@@ -12,7 +12,6 @@ use Rattle.tree.proofs.Part.{lent-back, lent-word}
 use Rattle.pieces.specs.Store.{slot, used, Order}
 use Rattle.pieces.specs.Marks.{Has}
 use Rattle.pieces.specs.Edits.{Resized}
-use Rattle.pieces.proofs.Counts.{leaf-used}
 
 -- no word past the tree has changed
 resized : (p q : List ℕ) (k n : ℕ) → length q ≡ length p → used q k ≡ n → ((j : ℕ) → j < 2048 → j ≢ k → used q j ≡ used p j)

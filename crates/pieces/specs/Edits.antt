@@ -1,10 +1,10 @@
 -- What the steps of an edit do: to the cells of one piece, to its length, and to one piece as a whole.
 use mathlib.Core.Path.{_≡_}
 use mathlib.Core.Logic.{_≢_}
-use mathlib.Core.List.{List, [], _∷_, _++_}
+use mathlib.Core.List.{List, [], _++_}
 use Prim.Native.Nat.{ℕ, _+_, _-_, _*_, _≤_, _<_}
 use lib.ListN.{length, getD, take, drop}
-use Rattle.model.specs.Paper.{Cell, new-cells}
+use Rattle.model.specs.Paper.{Cell}
 use Rattle.slots.specs.Cells.{cellsAt, Kept}
 use Rattle.pieces.specs.Marks.{Has}
 use Rattle.pieces.specs.Store.{slot, used, piece, cells-of, before, Marked, Order, Frame}

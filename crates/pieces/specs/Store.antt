@@ -3,12 +3,12 @@
 -- that one which is not used has no cells. The text is all pieces, one after the other. Words 6144 + i and 8192 + i are the set of marks of slot i, which has
 -- at least the marks of the piece in it.
 use mathlib.Core.Path.{_≡_}
-use mathlib.Core.List.{List, [], _∷_, _++_}
+use mathlib.Core.List.{List, [], _++_}
 use Prim.Native.Nat.{ℕ, zero, suc, _+_, _-_, _*_, _≤_, _<_}
 use lib.ListN.{length, getD, drop, replicate}
 use Rattle.std.specs.Iters.{counting}
 use Rattle.model.specs.Paper.{Cell}
-use Rattle.slots.specs.Cells.{cellAt, cellsAt}
+use Rattle.slots.specs.Cells.{cellsAt}
 use Rattle.tree.specs.Tree.{Sums}
 use Rattle.std.specs.shelf.Lists.{All}
 use Rattle.pieces.specs.Marks.{Marks}

@@ -128,14 +128,14 @@ mod tests {
     {
         let mut n = 0;
         let mut seed: usize = 1;
-        for change in 0..400 {
+        for change in 0..300 {
             seed = (seed * 75 + 74) % 65537;
             let many = 1 + seed % 299;
-            let place = seed % (n % MOST + 1);
+            let place = seed % (n.min(MOST) + 1);
             if n <= MOST && n + many <= MOST {
                 n = put(c, p, row, place, &letters[0..many], change)?;
             } else {
-                n = remove(c, p, row, place / 2, n % MOST / 3)?;
+                n = remove(c, p, row, place / 2, n / 3)?;
             }
             let cell = Cell {
                 letter: 10,

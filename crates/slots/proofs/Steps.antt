@@ -1,13 +1,12 @@
 -- What the code writes, over plain lists.
-use mathlib.Core.Path.{_≡_, refl, sym, ap, _∙_}
+use mathlib.Core.Path.{_≡_, sym, ap, _∙_}
 use mathlib.Core.Logic.{_≢_}
-use mathlib.Core.List.{List, [], _∷_, _++_}
-use Prim.Native.Nat.{ℕ, zero, suc, _+_, _-_, _*_, _≤_, _<_}
-use native.Mathlib.Nat.{add-zero, zero-add, add-suc, suc-add}
-use native.Mathlib.Numerals.{add-one}
+use mathlib.Core.List.{List}
+use Prim.Native.Nat.{ℕ, suc, _+_, _-_, _*_, _≤_, _<_}
+use native.Mathlib.Nat.{add-zero}
 use native.Mathlib.Omega.{arith}
-use lib.ListN.{length, getD, take, drop, set}
-use Rattle.std.proofs.shelf.Lists.{getD-set-same, getD-set-other, length-set, take-more, take-all}
+use lib.ListN.{length, getD, take, set}
+use Rattle.std.proofs.shelf.Lists.{getD-set-same, getD-set-other, length-set, take-more}
 use Rattle.model.specs.Paper as paper
 use Rattle.model.specs.Paper.{new-cells}
 use Rattle.model.specs.Values.{cell-of}

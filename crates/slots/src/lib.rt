@@ -1,6 +1,6 @@
 // Cells in lent words, four words a cell: read one, write one, copy a run of cells, paste one from other words, fill one with new letters.
 ghost use mathlib.Core.Path.{_≡_};
-ghost use Prim.Native.Nat.{ℕ, _+_, _*_, _<_, _≤_};
+ghost use Prim.Native.Nat.{_+_, _*_, _<_, _≤_};
 ghost use lib.ListN.{length};
 ghost use Rattle.model.specs.Paper.{new-cells};
 ghost use Rattle.model.specs.Values.{cell-of};

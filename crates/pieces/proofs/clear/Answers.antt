@@ -1,6 +1,5 @@
 use mathlib.Core.Path.{_≡_}
 use native.Mathlib.Omega.{arith}
-use lib.ListN.{length}
 use Rattle.pieces.specs.Store.{cleared-words}
 use Rattle.pieces.proofs.Cleared.{cleared-is, cleared-table, cleared-text, cleared-marked}
 use Rattle.pieces.proofs.clear.Needs as need

@@ -1,6 +1,5 @@
 use mathlib.Core.Path.{_∙_}
 use native.Mathlib.Omega.{arith}
-use lib.ListN.{drop}
 use Rattle.std.proofs.shelf.Lists.{take-rest, length-drop}
 use Rattle.pieces.proofs.Counts.{leaf-used, light}
 use Rattle.pieces.proofs.Leaves.{part-back, part-resized}
