@@ -7,9 +7,9 @@ use native.Mathlib.Omega.{arith}
 use lib.ListN.{length, take, drop}
 use Rattle.std.proofs.shelf.Lists.{append-assoc, length-append, length-take-le, length-drop}
 use Rattle.std.proofs.shelf.Tests.{cases-order, cases-eq}
-use Rattle.model.specs.Paper.{Cell, new-cells}
-use Rattle.slots.specs.Cells.{cellAt, cellsAt, Kept}
-use Rattle.slots.proofs.Words.{length-cells, cells-split, take-cells, drop-cells, kept-cells-below, kept-cells-above, kept-drop, kept-wider, kept-twice}
+use Rattle.model.specs.Paper.{Cell}
+use Rattle.slots.specs.Cells.{cellsAt, Kept}
+use Rattle.slots.proofs.Words.{length-cells, kept-cells-below, kept-cells-above, kept-drop}
 use Rattle.std.specs.shelf.Lists.{All}
 use Rattle.std.proofs.shelf.Elements.{all-append, all-take, all-drop}
 use Rattle.pieces.specs.Marks.{Has, Marks, Grown}

@@ -9,7 +9,7 @@ use Rattle.std.specs.Iters.{counting}
 use Rattle.std.proofs.shelf.Counted.{length-counting, getD-counting}
 use Rattle.std.proofs.shelf.Lists.{getD-append-left, getD-append-right, getD-replicate, length-replicate, length-append, length-drop, set-at, drop-more, drop-append-le, drop-replicate, append-assoc, getD-drop}
 use Rattle.slots.specs.Cells.{cellsAt}
-use Rattle.pieces.specs.Store.{slot, used, piece, cells-of, before, cleared-cells, cleared-words, Marked, Order, Table, Store}
+use Rattle.pieces.specs.Store.{piece, cells-of, cleared-words, Marked, Table}
 use Rattle.pieces.proofs.Strung.{strung-none}
 
 counting-push : (a n : ℕ) → counting a n ++ ((a + n) ∷ []) ≡ counting a (n + 1)

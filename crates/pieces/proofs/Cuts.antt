@@ -7,13 +7,13 @@ use native.Mathlib.Omega.{arith}
 use lib.ListN.{length, getD, take, drop, set}
 use Rattle.std.proofs.shelf.Lists.{append-assoc, append-nil, length-set, length-drop, take-append-drop, take-all, length-take-le, drop-all, getD-set-same, getD-set-other, ext-getD, getD-drop}
 use Rattle.std.proofs.shelf.Tests.{cases-eq, cases-order}
-use Rattle.model.specs.Paper.{Cell, new-cells}
-use Rattle.slots.specs.Cells.{cellAt, cellsAt, Kept}
-use Rattle.pieces.specs.Marks.{Has, Marks}
+use Rattle.model.specs.Paper.{Cell}
+use Rattle.slots.specs.Cells.{cellsAt}
+use Rattle.pieces.specs.Marks.{Has}
 use Rattle.pieces.specs.Store.{slot, used, piece, strung, cells-of, before, Marked, Order, Frame}
-use Rattle.pieces.specs.Edits.{replaced, Resized, Recounted, Changed, Shifted, Rotated, Same-text, Cut}
-use Rattle.pieces.proofs.Strung.{strung-same, strung-none, strung-zero, strung-at, strung-more, strung-split, take-within, drop-within}
-use Rattle.pieces.proofs.Texts.{length-piece, length-before}
+use Rattle.pieces.specs.Edits.{Recounted, Shifted, Rotated, Same-text, Cut}
+use Rattle.pieces.proofs.Strung.{strung-same, strung-none, strung-at, strung-split}
+use Rattle.pieces.proofs.Texts.{length-piece}
 use Rattle.pieces.proofs.Sets.{marks-moved}
 use Rattle.pieces.proofs.Change.{frame-both, frame-words, resized-order, carried}
 

@@ -5,17 +5,17 @@ use mathlib.Core.List.{List, [], _∷_, _++_}
 use Prim.Native.Nat.{ℕ, _+_, _-_, _*_, _≤_, _<_}
 use native.Mathlib.Numerals.{add-one}
 use native.Mathlib.Omega.{arith}
-use lib.ListN.{length, getD, take, drop, set}
-use Rattle.std.proofs.shelf.Lists.{append-assoc, length-append, length-drop, length-take-le, take-append-drop, take-at, drop-at, drop-drop, set-split}
+use lib.ListN.{length, take, drop, set}
+use Rattle.std.proofs.shelf.Lists.{append-assoc, length-append, length-take-le, take-append-drop, take-at, drop-at, drop-drop, set-split}
 use Rattle.std.proofs.shelf.Tests.{cases-lt, cases-eq}
 use Rattle.model.specs.Paper.{Cell}
 use Rattle.slots.specs.Cells.{cellAt, cellsAt, Kept}
 use Rattle.slots.proofs.Words.{cells-split}
 use Rattle.tree.specs.Tree.{Sums}
 use Rattle.std.specs.shelf.Lists.{All}
-use Rattle.pieces.specs.Marks.{Has, Marks, with-set, noted-cells, Beside, Grown}
-use Rattle.pieces.specs.Store.{slot, used, piece, strung, cells-of, before, Marked, Order, Table, Store, Frame, Edited}
-use Rattle.pieces.specs.Edits.{replaced, Filled, Resized, Changed, Same-text, Cut}
+use Rattle.pieces.specs.Marks.{Marks, with-set, noted-cells, Beside, Grown}
+use Rattle.pieces.specs.Store.{slot, used, piece, cells-of, before, Marked, Order, Store, Frame, Edited}
+use Rattle.pieces.specs.Edits.{replaced, Changed, Cut}
 use Rattle.pieces.proofs.Texts.{length-piece, length-text, before-more, before-within}
 use Rattle.pieces.proofs.Sets.{sums-beside, marks-moved, beside-both, set-beside, set-apart, cells-noted}
 use Rattle.pieces.proofs.Change.{changed-text, changed-marked, carried, length-replaced, replaced-here, resized-none, resized-grown, frame-both, frame-none}

@@ -7,10 +7,8 @@ use native.Mathlib.Omega.{arith}
 use borrow.Rule.Slice.PartMut.{putMid}
 use lib.ListN.{length, getD, take, drop, set}
 use Rattle.std.proofs.shelf.Lists.{take-rest, length-set, length-append, length-drop, length-take-le, getD-set-same, getD-set-other, getD-append-left, getD-take, getD-drop, drop-drop, drop-set-lt}
-use Rattle.tree.specs.Tree.{Sums}
 use Rattle.tree.proofs.Part.{lent-back, lent-word}
-use Rattle.pieces.specs.Store.{slot, used, Order}
-use Rattle.pieces.specs.Marks.{Has}
+use Rattle.pieces.specs.Store.{slot, used}
 use Rattle.pieces.specs.Edits.{Resized}
 
 -- no word past the tree has changed

@@ -1,20 +1,19 @@
 -- Sets of marks: bits of words, marks added, and two sets joined.
 use mathlib.Core.Path.{_≡_, refl, sym, ap, _∙_}
 use mathlib.Core.Logic.{_≢_, inl, inr}
-use mathlib.Core.Bool.{Bool, true, false, _&&_}
+use mathlib.Core.Bool.{true, false}
 use mathlib.Core.List.{List, [], _∷_, _++_}
-use Prim.Native.Nat.{ℕ, zero, suc, max, _+_, _-_, _*_, _/_, _%_, _^_, _≤_, _<_}
+use Prim.Native.Nat.{ℕ, max, _+_, _*_, _/_, _%_, _^_, _≤_, _<_}
 use native.Mathlib.Nat.{one-mul}
 use native.Mathlib.Omega.{arith}
 use lib.Bits.{bitOr, or-step}
-use lib.Dec.{eqb}
-use lib.ListN.{length, getD, set, take, drop}
+use lib.ListN.{length, getD, set, drop}
 use Rattle.std.specs.shelf.Lists.{All}
 use Rattle.std.proofs.shelf.Bits.{or-shr, or-comm, shl-shr, one-shl}
-use Rattle.std.proofs.shelf.Elements.{all-weaker, all-append, all-take, all-drop}
+use Rattle.std.proofs.shelf.Elements.{all-weaker}
 use Rattle.std.proofs.shelf.Lists.{length-set, getD-set-same, getD-set-other, drop-set-lt, getD-drop, length-drop}
 use Rattle.std.proofs.shelf.Tests.{cases-eq, eq-eqb, ne-eqb}
-use Rattle.model.specs.Paper.{pick, Cell}
+use Rattle.model.specs.Paper.{Cell}
 use Rattle.tree.specs.Tree.{Sums}
 use Rattle.slots.specs.Cells.{cellAt, cellsAt}
 use Rattle.slots.proofs.Words.{cells-more}

@@ -5,7 +5,7 @@ ghost use mathlib.Core.Path.{_≡_};
 ghost use mathlib.Core.Bool.{false};
 ghost use mathlib.Core.List.{List, _++_, []};
 ghost use mathlib.Core.Logic.{_≢_};
-ghost use Prim.Native.Nat.{_+_, _-_, _*_, _/_, _<_, _≤_};
+ghost use Prim.Native.Nat.{ℕ, _+_, _-_, _*_, _/_, _<_, _≤_};
 ghost use lib.ListN.{length, getD, set, take, drop, replicate};
 ghost use Rattle.model.specs.Values.{cell-of};
 ghost use Rattle.std.specs.Iters.{counting};
@@ -24,7 +24,7 @@ const CELLS: usize = 1024;
 // How many cells a piece gets when pieces are packed: room is left, so that not every put cuts a piece.
 const FULL: usize = 768;
 
-// The words of `p` where the tree begins, where its leaves begin, and where it ends.
+// The words of `p` where the tree begins, where its leaves begin, where the first and the second words of the sets of marks begin, and where these end.
 const TREE: usize = 2048;
 
 const LEAVES: usize = 4096;

@@ -1,9 +1,8 @@
-use mathlib.Core.Path.{_≡_, ap, sym, _∙_}
-use Prim.Native.Nat.{_+_, _-_, _*_, _<_, _≤_}
+use mathlib.Core.Path.{ap, _∙_}
+use Prim.Native.Nat.{_+_}
 use native.Mathlib.Omega.{arith}
-use lib.ListN.{length}
 use Rattle.slots.specs.Cells.{cellsAt}
-use Rattle.pieces.specs.Store.{used, before, cells-of, Store}
+use Rattle.pieces.specs.Store.{before, cells-of}
 use Rattle.pieces.specs.Edits.{replaced}
 use Rattle.pieces.proofs.Texts.{length-text}
 use Rattle.pieces.proofs.Packs.{same-before}

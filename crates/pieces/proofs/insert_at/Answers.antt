@@ -1,12 +1,9 @@
-use mathlib.Core.Path.{_≡_, refl, sym, _∙_}
-use Prim.Native.Nat.{ℕ, _+_, _-_, _<_, _≤_}
+use Prim.Native.Nat.{_+_, _-_, _<_}
 use native.Mathlib.Omega.{arith}
 use Rattle.slots.specs.Cells.{cellsAt}
-use Rattle.pieces.specs.Store.{used, before, cells-of, Store}
-use Rattle.pieces.specs.Edits.{replaced}
 use Rattle.pieces.proofs.Change.{changed-marked}
 use Rattle.pieces.proofs.Cuts.{used-from}
-use Rattle.pieces.proofs.Edit.{edited, edited-as, inserted-twice, store-after, not-last, halves}
+use Rattle.pieces.proofs.Edit.{edited, inserted-twice, store-after, not-last, halves}
 use Rattle.pieces.proofs.insert_at.Needs as need
 
 pub returns-then-used-n-le-CELLS : need.returns-then-used-n-le-CELLS

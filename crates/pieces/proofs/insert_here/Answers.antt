@@ -1,10 +1,6 @@
-use mathlib.Core.Path.{_≡_, sym, _∙_}
-use Prim.Native.Nat.{_≤_, _<_}
 use native.Mathlib.Omega.{arith}
-use lib.ListN.{length}
 use Rattle.slots.specs.Cells.{cellsAt}
 use Rattle.slots.proofs.Words.{length-cells}
-use Rattle.pieces.specs.Store.{slot}
 use Rattle.pieces.proofs.Sets.{piece-noted, sums-beside}
 use Rattle.pieces.proofs.Change.{replaced-here, resized-grown}
 use Rattle.pieces.proofs.insert_here.Needs as need

@@ -1,4 +1,4 @@
-use mathlib.Core.Path.{_≡_, refl, sym, _∙_}
+use mathlib.Core.Path.{refl}
 use Rattle.pieces.specs.Store.{slot, piece}
 use Rattle.pieces.proofs.Sets.{lacks}
 use Rattle.pieces.proofs.may_have.Needs as need

@@ -1,7 +1,4 @@
-use mathlib.Core.Path.{_≡_, ap, sym, _∙_}
-use Prim.Native.Nat.{_≤_}
 use native.Mathlib.Omega.{arith}
-use lib.ListN.{length}
 use Rattle.model.specs.Values.{cell-of}
 use Rattle.pieces.proofs.Sets.{cell-noted}
 use Rattle.pieces.proofs.Edit.{written}

@@ -1,9 +1,6 @@
-use mathlib.Core.List.{_++_}
-use mathlib.Core.Path.{_≡_, ap}
-use lib.ListN.{take, drop, length}
-use Rattle.model.specs.Paper.{Cell, new-cells}
+use lib.ListN.{length}
+use Rattle.model.specs.Paper.{new-cells}
 use Rattle.slots.specs.Cells.{cellsAt}
-use Rattle.pieces.specs.Store.{cells-of}
 use Rattle.pieces.proofs.Edit.{put-as}
 use Rattle.pieces.proofs.put.Needs as need
 

@@ -1,8 +1,5 @@
-use mathlib.Core.Path.{_≡_, _∙_}
-use Prim.Native.Nat.{_<_}
 use native.Mathlib.Omega.{arith}
-use Rattle.pieces.specs.Store.{slot, used}
-use Rattle.pieces.specs.Marks.{Has}
+use Rattle.pieces.specs.Store.{slot}
 use Rattle.pieces.proofs.Change.{resized-grown, resized-order, shifted}
 use Rattle.pieces.proofs.shift.Needs as need
 
