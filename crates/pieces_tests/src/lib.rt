@@ -14,7 +14,7 @@ mod tests {
     // As many cells as five slots take for sure.
     const MOST: usize = 3072;
 
-    // The store holds the first `n` cells of the row.
+    // The store holds the first `n` cells of the row, and their marks are in the sets.
     fn same(c: &[u32], p: &[u32], row: &[Cell], n: usize) -> Result<(), Fail>
         requires { ⌜ Store (now c) (now p) 5 ⌝ }
     {
@@ -27,18 +27,37 @@ mod tests {
             check(cell.style == row[place].style)?;
             check(cell.put_in == row[place].put_in)?;
             check(cell.struck == row[place].struck)?;
+            if cell.put_in > 0 {
+                check(pieces::may_have(p, SLOTS, spot.piece, cell.put_in))?;
+            }
+            if cell.struck > 0 {
+                check(pieces::may_have(p, SLOTS, spot.piece, cell.struck))?;
+            }
         }
         Ok(())
     }
 
     // Puts letters into the store and into the row. Returns how many cells there are then.
-    fn put(c: &mut [u32], p: &mut [u32], row: &mut [Cell], place: usize, letters: &[u8], change: u32) -> Result<usize, Fail>
+    fn put(
+        c: &mut [u32],
+        p: &mut [u32],
+        row: &mut [Cell],
+        place: usize,
+        letters: &[u8],
+        change: u32,
+    ) -> Result<usize, Fail>
         requires { ⌜ Store (now c) (now p) 5 ⌝ }
         ensures { λ _. ⌜ Store (now (c .exit)) (now (p .exit)) 5 ⌝ }
     {
         let n = pieces::count(p, SLOTS);
         let more = letters.len();
-        if more > 1024 || n > MOST || n + more > MOST || place > n || change > 1000 || MOST > row.len() {
+        if more > 1024
+            || n > MOST
+            || n + more > MOST
+            || place > n
+            || change > 1000
+            || MOST > row.len()
+        {
             return Err(Fail::new("no room"));
         }
         pieces::put(c, p, SLOTS, place, letters, 3, change);
@@ -55,7 +74,13 @@ mod tests {
     }
 
     // Takes `m` cells out of the store and out of the row. Returns how many cells there are then.
-    fn remove(c: &mut [u32], p: &mut [u32], row: &mut [Cell], place: usize, m: usize) -> Result<usize, Fail>
+    fn remove(
+        c: &mut [u32],
+        p: &mut [u32],
+        row: &mut [Cell],
+        place: usize,
+        m: usize,
+    ) -> Result<usize, Fail>
         requires { ⌜ Store (now c) (now p) 5 ⌝ }
         ensures { λ _. ⌜ Store (now (c .exit)) (now (p .exit)) 5 ⌝ }
     {
@@ -69,7 +94,13 @@ mod tests {
     }
 
     // Writes one cell of the store and of the row.
-    fn overwrite(c: &mut [u32], p: &mut [u32], row: &mut [Cell], place: usize, cell: Cell) -> Result<(), Fail>
+    fn overwrite(
+        c: &mut [u32],
+        p: &mut [u32],
+        row: &mut [Cell],
+        place: usize,
+        cell: Cell,
+    ) -> Result<(), Fail>
         requires { ⌜ Store (now c) (now p) 5 ⌝ }
         ensures { λ _. ⌜ Store (now (c .exit)) (now (p .exit)) 5 ⌝ }
     {
@@ -97,14 +128,14 @@ mod tests {
     {
         let mut n = 0;
         let mut seed: usize = 1;
-        for change in 0..400 {
+        for change in 0..300 {
             seed = (seed * 75 + 74) % 65537;
             let many = 1 + seed % 299;
-            let place = seed % (n % MOST + 1);
+            let place = seed % (n.min(MOST) + 1);
             if n <= MOST && n + many <= MOST {
                 n = put(c, p, row, place, &letters[0..many], change)?;
             } else {
-                n = remove(c, p, row, place / 2, n % MOST / 3)?;
+                n = remove(c, p, row, place / 2, n / 3)?;
             }
             let cell = Cell {
                 letter: 10,
@@ -121,7 +152,7 @@ mod tests {
     #[test]
     fn edits() -> Result<(), Fail> {
         let mut c = [7; 20480];
-        let mut p = [7; 6144];
+        let mut p = [7; 10240];
         let none = Cell {
             letter: 0,
             style: 0,
