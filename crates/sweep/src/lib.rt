@@ -3,10 +3,11 @@ ghost use Prim.Native.Nat.{suc, _+_, _-_, _*_, _<_, _≤_};
 ghost use Rattle.changes.specs.Row.{changes-of};
 ghost use Rattle.model.specs.Paper.{author-of, pick, touched as touches};
 ghost use Rattle.model.specs.Values.{cell-of};
-ghost use Rattle.pieces.specs.Edits.{Changed, Filled};
-ghost use Rattle.pieces.specs.Store.{cells-of, Edited, Order, Store, piece, used};
+ghost use Rattle.pieces.specs.Edits.{Changed, Filled, Resized};
+ghost use Rattle.pieces.specs.Store.{cells-of, Edited, Order, Store, piece, slot, used};
 ghost use Rattle.slots.specs.Cells.{Kept, cellAt, cellsAt};
-ghost use Rattle.sweep.specs.Sweep.{changed as afterwards, fate as fate-of, goes as is-gone, left-of, One-meaning, swept, swept-run, Writable};
+ghost use Rattle.sweep.specs.Sweep.{changed as afterwards, fate as fate-of, goes as is-gone, left-of, mark-of, Noted, One-meaning, swept, swept-run, Writable};
+ghost use Rattle.tree.specs.Tree.{Sums};
 ghost use lib.Dec.{eqb};
 ghost use lib.ListN.{drop, length, take};
 ghost use mathlib.Core.List.{_++_};
@@ -201,6 +202,38 @@ pub struct Places {
     pub slots: usize,
 }
 
+// The mark that the action writes into cells, or 0.
+fn new_mark(action: Action) -> u32
+    requires { ⌜ Writable action ⌝ }
+    ensures { λ r. ⌜ r ≡ mark-of action ⌝ }
+{
+    match action {
+        Action::Strike { change, .. } => change + 1,
+        Action::Accept { .. } => 0,
+        Action::Reject { .. } => 0,
+        Action::Style { .. } => 0,
+    }
+}
+
+// Piece `k` gets the length `n`, and its set of marks the one that the action writes.
+fn resize(p: &mut [u32], s: usize, k: usize, n: usize, action: Action)
+    requires order { ⌜ Order (now p) s ⌝ }
+    requires here { ⌜ k < s ⌝ }
+    requires small { ⌜ n ≤ 1024 ⌝ }
+    requires sums { ⌜ Sums (drop 2048 (now p)) ⌝ }
+    requires mark { ⌜ Writable action ⌝ }
+    ensures resized { λ _. ⌜ Resized (now (p .entry)) (now (p .exit)) k n ⌝ }
+    ensures sums { λ _. ⌜ Sums (drop 2048 (now (p .exit))) ⌝ }
+    ensures noted { λ _. ⌜ Noted action (now (p .exit)) (slot (now (p .exit)) k) ⌝ }
+{
+    pieces::resize(p, k, n);
+    let mark = new_mark(action);
+    if mark == 0 {
+        return;
+    }
+    pieces::add_mark(p, s, k, mark);
+}
+
 // Sweeps `n` cells of piece `k`, from its cell `o` on. Returns how many of them are left.
 fn sweep_piece(c: &mut [u32], w: &mut [u32], at: Places, k: usize, o: usize, n: usize, action: Action) -> usize
     requires store { ⌜ Store (now c) (drop (at .tables) (now w)) (at .slots) ⌝ }
@@ -218,7 +251,7 @@ fn sweep_piece(c: &mut [u32], w: &mut [u32], at: Places, k: usize, o: usize, n: 
     let tables = at.tables;
     let left = sweep_slot(c, &w[tables..], at.slots, k, o, n, action, &w[HEAD..], at.row);
     let has = pieces::used(&w[tables..], k) - n + left;
-    pieces::resize(&mut w[tables..], k, has);
+    resize(&mut w[tables..], at.slots, k, has, action);
     left
 }
 

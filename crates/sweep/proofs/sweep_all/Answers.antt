@@ -11,6 +11,7 @@ use Rattle.pieces.proofs.Change.{frame-none, frame-both}
 use Rattle.sweep.specs.Sweep.{swept}
 use Rattle.sweep.proofs.Ahead.{row-kept}
 use Rattle.sweep.proofs.Runs.{piece-swept, strung-swept}
+use Rattle.sweep.proofs.Sets.{past-tree}
 use Rattle.sweep.proofs.sweep_all.Needs as need
 
 pub loop-k-holds : need.loop-k-holds
@@ -19,7 +20,7 @@ loop-k-holds c = (c .pre .store, frame-none (c .args .c .now) (drop (c .args .at
 pub used-has-requires : need.used-has-requires
 used-has-requires c κs =
     let inv = c .loop-k .inv in
-    simp take-rest record { leaf = omega (arith, c .loop-k-test .taken, inv .0 .table .order .most); words = inv .0 .table .order .words }
+    simp take-rest record { leaf = omega (arith, c .loop-k-test .taken, inv .0 .table .order .most); words = past-tree (drop (c .args .at .tables) (c .loop-k .w)) (c .args .at .slots) (inv .0 .table .order) }
 
 pub sweep-piece-requires : need.sweep-piece-requires
 sweep-piece-requires c κs =
