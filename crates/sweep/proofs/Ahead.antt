@@ -12,6 +12,6 @@ pub row-kept : (v w : List ℕ) (t n : ℕ) → 16 + 2 * n ≤ t → take t v �
 row-kept v w t n h e =
     changes-same (drop 16 v) (drop 16 w) 0 n
     (λ i low high.
-        let inside : 16 + i < t = omega arith in
-        getD-drop 16 v i 0
-        ∙ (sym (getD-take t v (16 + i) 0 inside) ∙ (ap (λ (xs : List ℕ). getD xs (16 + i) 0) e ∙ (getD-take t w (16 + i) 0 inside ∙ sym (getD-drop 16 w i 0)))))
+    let inside : 16 + i < t = omega arith in
+    getD-drop 16 v i 0
+    ∙ (sym (getD-take t v (16 + i) 0 inside) ∙ (ap (λ (xs : List ℕ). getD xs (16 + i) 0) e ∙ (getD-take t w (16 + i) 0 inside ∙ sym (getD-drop 16 w i 0)))))

@@ -1,6 +1,5 @@
 -- A sweep and the sets of marks.
 use mathlib.Core.Path.{_≡_, refl, sym, ap, _∙_}
-use mathlib.Core.Logic.{inl, inr}
 use mathlib.Core.Bool.{Bool, true, false}
 use mathlib.Core.List.{List, [], _∷_, _++_}
 use Prim.Native.Nat.{ℕ, suc, _+_, _≤_, _<_}
@@ -9,11 +8,12 @@ use lib.Dec.{eqb}
 use lib.ListN.{length, take, drop}
 use Rattle.std.specs.shelf.Lists.{All}
 use Rattle.std.proofs.shelf.Elements.{all-append, all-take, all-drop}
+use Rattle.std.proofs.shelf.Tests.{ne-eqb}
 use Rattle.model.specs.Paper.{pick, Cell, Change}
-use Rattle.pieces.specs.Marks.{Has, Marks}
-use Rattle.pieces.specs.Store.{slot, piece, Marked, Order}
+use Rattle.pieces.specs.Marks.{Has, Lacks, Marks}
+use Rattle.pieces.specs.Store.{slot, piece, Marked, Order, Store}
 use Rattle.pieces.specs.Edits.{Changed}
-use Rattle.pieces.proofs.Change.{carried, changed-marked}
+use Rattle.pieces.proofs.Change.{carried, changed-marked, frame-none}
 use Rattle.sweep.specs.declared.Action.{Action}
 use Rattle.sweep.specs.declared.Action.the-variants.{Strike, Accept, Reject, Style}
 use Rattle.sweep.specs.Sweep.{goes, changed, fate, swept, swept-run, Noted}
@@ -52,3 +52,24 @@ marked-after c p d q s k o n a cs w l mk noted h =
     let had = carried p q s w (h .slots) (h .has) k l xs (mk k l) in
     changed-marked c p d q s k o n (swept a cs (take n (drop o xs))) w l mk h
     (swept-marks a cs q (slot q k) noted (take n (drop o xs)) (all-take P n (drop o xs) (all-drop P o xs had)))
+
+-- a sweep for a mark that no cell has
+pub accept-lacks : (c : ℕ) (cs : List Change) (xs : List Cell) → All (Lacks (suc c)) xs → swept (Accept c) cs xs ≡ xs
+unfolding swept
+accept-lacks c cs [] all = refl
+accept-lacks c cs (x ∷ xs) all =
+    rw (ne-eqb (x .put-in) (suc c) (all .0 .put-in), ne-eqb (x .struck) (suc c) (all .0 .struck)) (ap (λ ys. x ∷ ys) (accept-lacks c cs xs (all .1)))
+
+pub reject-lacks : (c : ℕ) (cs : List Change) (xs : List Cell) → All (Lacks (suc c)) xs → swept (Reject c) cs xs ≡ xs
+unfolding swept
+reject-lacks c cs [] all = refl
+reject-lacks c cs (x ∷ xs) all =
+    rw (ne-eqb (x .put-in) (suc c) (all .0 .put-in), ne-eqb (x .struck) (suc c) (all .0 .struck)) (ap (λ ys. x ∷ ys) (reject-lacks c cs xs (all .1)))
+
+-- a piece that stays as it is
+pub unchanged : (c p : List ℕ) (s k : ℕ) (xs : List Cell) → Store c p s → xs ≡ piece c p k → Changed c p c p s k xs
+unchanged c p s k xs t e =
+    record { order = t .table .order; frame = frame-none c p s; here = sym e; others = λ j l ne. refl; slots = λ j l. refl; has = λ i m l h. h }
+
+pub true-false : true ≡ false → ⊥
+true-false e = let z : _≡_ {A = ℕ} 1 0 = ap (λ t. pick {A = ℕ} t 1 0) e in omega arith

@@ -21,7 +21,12 @@ sweep-slot-left-requires c κs =
     let l = length-drop 16 (c .args .w .now) in
     let row : 2 * c .args .at .row ≤ length (drop 16 (c .args .w .now)) = omega (arith, c .pre .row, c .pre .long) in
     simp take-rest record {
-      order = c .pre .store .table .order; room = c .pre .store .room; here = c .pre .here; within = c .pre .within; row = row; mark = c .pre .mark
+      order = c .pre .store .table .order;
+      room = c .pre .store .room;
+      here = c .pre .here;
+      within = c .pre .within;
+      row = row;
+      mark = c .pre .mark;
     }
 
 pub used-requires : need.used-requires
@@ -56,7 +61,7 @@ returns c =
     let is : c .used .result ≡ used p k = simp take-rest at (c .used .ensures) in
     let left : c .sweep-slot-left .result ≡ length ys = simp take-rest at (c .sweep-slot-left .ensures .left) in
     let filled : Filled (c .args .c .now) (c .sweep-slot-left .last .c) p k (swept-run (c .args .action) cs (piece (c .args .c .now) p k) (c .args .o) (c .args .n)) =
-        simp take-rest at (c .sweep-slot-left .ensures .filled) in
+    simp take-rest at (c .sweep-slot-left .ensures .filled) in
     let resized : Resized p q k (c .used .result - c .args .n + c .sweep-slot-left .result) = simp take-rest at (c .resize .ensures .resized) in
     let long : length q ≡ length w - t = resized .long ∙ length-drop t w in
     let back : drop t (putMid t (length w - t) w q) ≡ q = lent-back t w q (c .pre .long) long in

@@ -91,5 +91,5 @@ returns c =
     let z : c .loop-left .left ≡ 0 = omega arith in
     record {
       edited = record { store = inv .0; frame = inv .1; text = sym (ap (λ n. swept-run a cs t (c .loop-left .next) n) z ∙ swept-run-none a cs t (c .loop-left .next)) ∙ inv .3 };
-      head = inv .4
+      head = inv .4;
     }
