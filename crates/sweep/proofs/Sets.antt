@@ -1,5 +1,5 @@
 -- A sweep and the sets of marks.
-use mathlib.Core.Path.{_≡_, refl, sym, ap, _∙_}
+use mathlib.Core.Path.{_≡_, refl, ap}
 use mathlib.Core.Bool.{Bool, true, false}
 use mathlib.Core.List.{List, [], _∷_, _++_}
 use Prim.Native.Nat.{ℕ, suc, _+_, _≤_, _<_}
@@ -10,10 +10,10 @@ use Rattle.std.specs.shelf.Lists.{All}
 use Rattle.std.proofs.shelf.Elements.{all-append, all-take, all-drop}
 use Rattle.std.proofs.shelf.Tests.{ne-eqb}
 use Rattle.model.specs.Paper.{pick, Cell, Change}
-use Rattle.pieces.specs.Marks.{Has, Lacks, Marks}
-use Rattle.pieces.specs.Store.{slot, piece, Marked, Order, Store}
+use Rattle.pieces.specs.Marks.{Beside, Has, Lacks, Marks}
+use Rattle.pieces.specs.Store.{slot, piece, Marked, Order}
 use Rattle.pieces.specs.Edits.{Changed}
-use Rattle.pieces.proofs.Change.{carried, changed-marked, frame-none}
+use Rattle.pieces.proofs.Change.{carried, changed-marked}
 use Rattle.sweep.specs.declared.Action.{Action}
 use Rattle.sweep.specs.declared.Action.the-variants.{Strike, Accept, Reject, Style}
 use Rattle.sweep.specs.Sweep.{goes, changed, fate, swept, swept-run, Noted}
@@ -66,10 +66,10 @@ reject-lacks c cs [] all = refl
 reject-lacks c cs (x ∷ xs) all =
     rw (ne-eqb (x .put-in) (suc c) (all .0 .put-in), ne-eqb (x .struck) (suc c) (all .0 .struck)) (ap (λ ys. x ∷ ys) (reject-lacks c cs xs (all .1)))
 
--- a piece that stays as it is
-pub unchanged : (c p : List ℕ) (s k : ℕ) (xs : List Cell) → Store c p s → xs ≡ piece c p k → Changed c p c p s k xs
-unchanged c p s k xs t e =
-    record { order = t .table .order; frame = frame-none c p s; here = sym e; others = λ j l ne. refl; slots = λ j l. refl; has = λ i m l h. h }
+-- pieces stay where only words of sets change
+pub beside-piece : (c p q : List ℕ) (s k : ℕ) → Order p s → Beside p q → k < s → piece c q k ≡ piece c p k
+unfolding piece
+beside-piece c p q s k o h l = let most = o .most in rw (h .below k (omega arith), h .below (4096 + k) (omega arith))
 
 pub true-false : true ≡ false → ⊥
 true-false e = let z : _≡_ {A = ℕ} 1 0 = ap (λ t. pick {A = ℕ} t 1 0) e in omega arith

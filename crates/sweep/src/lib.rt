@@ -4,8 +4,8 @@ ghost use Rattle.changes.specs.Row.{changes-of};
 ghost use Rattle.model.specs.Paper.{Change, author-of, pick, touched as touches};
 ghost use Rattle.model.specs.Values.{cell-of};
 ghost use Rattle.pieces.specs.Edits.{Changed, Filled, Resized};
-ghost use Rattle.pieces.specs.Marks.{Lacks};
-ghost use Rattle.pieces.specs.Store.{cells-of, Edited, Order, Store, piece, slot, used};
+ghost use Rattle.pieces.specs.Marks.{Beside, Lacks};
+ghost use Rattle.pieces.specs.Store.{cells-of, Edited, Frame, Order, Store, piece, slot, used};
 ghost use Rattle.slots.specs.Cells.{Kept, cellAt, cellsAt};
 ghost use Rattle.sweep.specs.Sweep.{changed as afterwards, fate as fate-of, goes as is-gone, left-of, mark-of, Noted, One-meaning, swept, swept-run, Writable};
 ghost use Rattle.std.specs.shelf.Lists.{All};
@@ -14,6 +14,7 @@ ghost use lib.Dec.{eqb};
 ghost use lib.ListN.{drop, length, take};
 ghost use mathlib.Core.List.{List, _++_};
 ghost use mathlib.Core.Bool.{false, _||_};
+ghost use mathlib.Core.Logic.{_≢_};
 ghost use mathlib.Core.Path.{_≡_};
 use model::Cell;
 
@@ -323,6 +324,19 @@ fn concerns(p: &[u32], s: usize, k: usize, action: Action) -> bool
     }
 }
 
+// Makes the set of marks of piece `k` anew: it then has no mark that none of its cells has.
+fn remark(c: &[u32], w: &mut [u32], at: Places, k: usize)
+    requires store { ⌜ Store (now c) (drop (at .tables) (now w)) (at .slots) ⌝ }
+    requires here { ⌜ k < at .slots ⌝ }
+    requires long { ⌜ at .tables ≤ length (now w) ⌝ }
+    ensures beside { λ _. ⌜ Beside (drop (at .tables) (now (w .entry))) (drop (at .tables) (now (w .exit))) ⌝ }
+    ensures store { λ _. ⌜ Store (now (c .entry)) (drop (at .tables) (now (w .exit))) (at .slots) ⌝ }
+    ensures head { λ _. ⌜ take (at .tables) (now (w .exit)) ≡ take (at .tables) (now (w .entry)) ⌝ }
+{
+    let tables = at.tables;
+    pieces::remark(c, &mut w[tables..], at.slots, k);
+}
+
 // Sweeps all cells of piece `k`.
 fn sweep_whole(c: &mut [u32], w: &mut [u32], at: Places, k: usize, action: Action)
     requires store { ⌜ Store (now c) (drop (at .tables) (now w)) (at .slots) ⌝ }
@@ -330,7 +344,9 @@ fn sweep_whole(c: &mut [u32], w: &mut [u32], at: Places, k: usize, action: Actio
     requires row { ⌜ 16 + 2 * at .row ≤ at .tables ⌝ }
     requires long { ⌜ at .tables ≤ length (now w) ⌝ }
     requires mark { ⌜ Writable action ⌝ }
-    ensures changed { λ _. ⌜ Changed (now (c .entry)) (drop (at .tables) (now (w .entry))) (now (c .exit)) (drop (at .tables) (now (w .exit))) (at .slots) k (swept action (changes-of (drop 16 (now (w .entry))) (at .row)) (piece (now (c .entry)) (drop (at .tables) (now (w .entry))) k)) ⌝ }
+    ensures frame { λ _. ⌜ Frame (now (c .entry)) (drop (at .tables) (now (w .entry))) (now (c .exit)) (drop (at .tables) (now (w .exit))) (at .slots) ⌝ }
+    ensures swept { λ _. ⌜ piece (now (c .exit)) (drop (at .tables) (now (w .exit))) k ≡ swept action (changes-of (drop 16 (now (w .entry))) (at .row)) (piece (now (c .entry)) (drop (at .tables) (now (w .entry))) k) ⌝ }
+    ensures others { λ _. ⌜ ((j : ℕ) → j < at .slots → j ≢ k → piece (now (c .exit)) (drop (at .tables) (now (w .exit))) j ≡ piece (now (c .entry)) (drop (at .tables) (now (w .entry))) j) ⌝ }
     ensures store { λ _. ⌜ Store (now (c .exit)) (drop (at .tables) (now (w .exit))) (at .slots) ⌝ }
     ensures head { λ _. ⌜ take (at .tables) (now (w .exit)) ≡ take (at .tables) (now (w .entry)) ⌝ }
 {
@@ -340,6 +356,7 @@ fn sweep_whole(c: &mut [u32], w: &mut [u32], at: Places, k: usize, action: Actio
     }
     let has = pieces::used(&w[tables..], k);
     sweep_piece(c, w, at, k, 0, has, action);
+    remark(c, w, at, k);
 }
 
 // Sweeps all cells of the text.

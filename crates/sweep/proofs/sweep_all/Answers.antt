@@ -32,13 +32,13 @@ loop-k-again c =
     let a = c .args .action in
     let cs = changes-of (drop 16 (c .args .w .now)) (c .args .at .row) in
     let row : changes-of (drop 16 (c .loop-k .w)) (c .args .at .row) ≡ cs = row-kept (c .loop-k .w) (c .args .w .now) t (c .args .at .row) (c .pre .row) (inv .4) in
-    let h = rw row at (c .sweep-whole .ensures .changed) in
+    let h = c .sweep-whole .ensures in
     let here : k < s = c .loop-k-test .taken in (
       c .sweep-whole .ensures .store,
       frame-both (c .args .c .now) p (c .loop-k .c) q (c .sweep-whole .last .c) r s (inv .1) (h .frame),
       below-more (λ j. piece (c .sweep-whole .last .c) r j ≡ swept a cs (piece (c .args .c .now) p j)) k
           (λ j l. h .others j (omega arith) (omega arith) ∙ inv .2 j l)
-          (h .here ∙ ap (swept a cs) (inv .3 k (omega arith) here)),
+          (rw row at (h .swept) ∙ ap (swept a cs) (inv .3 k (omega arith) here)),
       (λ j l m. h .others j m (omega arith) ∙ inv .3 j (omega arith) m),
       c .sweep-whole .ensures .head ∙ inv .4,
       c .sweep-whole .kept .w ∙ inv .5,
