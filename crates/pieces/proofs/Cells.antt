@@ -1,14 +1,13 @@
 -- What the steps of an edit write into one slot.
-use mathlib.Core.Path.{_≡_, refl, sym, ap, _∙_}
+use mathlib.Core.Path.{_≡_, refl, _∙_}
 use mathlib.Core.List.{List, [], _∷_, _++_}
-use Prim.Native.Nat.{ℕ, zero, suc, _+_, _-_, _*_, _≤_, _<_}
-use native.Mathlib.Nat.{add-zero, zero-add, add-suc, suc-add}
+use Prim.Native.Nat.{ℕ, _+_, _-_, _*_, _≤_, _<_}
 use native.Mathlib.Omega.{arith}
-use lib.ListN.{length, getD, take, drop}
-use Rattle.model.specs.Paper.{Cell, new-cells}
+use lib.ListN.{take, drop}
+use Rattle.model.specs.Paper.{Cell}
 use Rattle.slots.specs.Cells.{cellAt, cellsAt, Kept}
-use Rattle.slots.proofs.Words.{length-cells, cells-split, take-cells, drop-cells, kept-cells-below, kept-cells-above, kept-wider, kept-twice}
-use Rattle.pieces.specs.Store.{slot, used, piece, Order}
+use Rattle.slots.proofs.Words.{cells-split, take-cells, drop-cells, kept-cells-below, kept-cells-above, kept-wider, kept-twice}
+use Rattle.pieces.specs.Store.{slot, used, piece}
 use Rattle.pieces.specs.Edits.{replaced, Filled}
 use Rattle.pieces.proofs.Change.{filled}
 

@@ -1,19 +1,17 @@
 -- The counts of the tree as places in the text.
-use mathlib.Core.Path.{_≡_, refl, sym, ap, _∙_}
+use mathlib.Core.Path.{_≡_, ap, _∙_}
 use mathlib.Core.Logic.{inl, inr}
-use mathlib.Core.List.{List, [], _∷_, _++_}
-use Prim.Native.Nat.{ℕ, zero, suc, _+_, _-_, _*_, _≤_, _<_}
-use native.Mathlib.Nat.{add-zero, zero-add, add-suc, suc-add}
-use native.Mathlib.Numerals.{add-one}
+use mathlib.Core.List.{List}
+use Prim.Native.Nat.{ℕ, zero, suc, _+_, _-_, _≤_, _<_}
+use native.Mathlib.Nat.{add-zero, add-suc}
 use native.Mathlib.Omega.{arith}
-use lib.ListN.{length, getD, take, drop}
+use lib.ListN.{getD, drop}
 use Rattle.std.proofs.shelf.Lists.{getD-drop}
 use Rattle.std.proofs.shelf.Tests.{cases-lt}
-use Rattle.tree.specs.Tree.{Sums, Found, Light, total}
+use Rattle.tree.specs.Tree.{Found, Light, total}
 use Rattle.tree.proofs.Total.{total-none, total-more}
 use Rattle.tree.proofs.Node.{root-total}
 use Rattle.pieces.specs.Store.{used, before, Order, Table, Located}
-use Rattle.pieces.proofs.Texts.{before-more}
 
 -- leaf k of the tree
 pub leaf-used : (p : List ℕ) (k : ℕ) → getD (drop 2048 p) (2048 + k) 0 ≡ used p k

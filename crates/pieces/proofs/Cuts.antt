@@ -1,20 +1,21 @@
 -- A piece that is cut in two: the last slot is rotated into place, and takes the cells behind the cut.
 use mathlib.Core.Path.{_≡_, refl, sym, ap, _∙_}
 use mathlib.Core.Logic.{_≢_, _⊎_, inl, inr}
-use mathlib.Core.List.{List, [], _∷_, _++_}
-use Prim.Native.Nat.{ℕ, zero, suc, _+_, _-_, _*_, _≤_, _<_}
-use native.Mathlib.Nat.{add-zero, zero-add, add-suc, suc-add}
+use mathlib.Core.List.{List, [], _++_}
+use Prim.Native.Nat.{ℕ, zero, suc, _+_, _-_, _≤_, _<_}
 use native.Mathlib.Omega.{arith}
 use lib.ListN.{length, getD, take, drop, set}
-use Rattle.std.proofs.shelf.Lists.{append-assoc, append-nil, length-append, length-set, length-drop, take-append-drop, take-all, length-take-le, drop-all, drop-set-lt, getD-set-same, getD-set-other, ext-getD, getD-drop}
+use Rattle.std.proofs.shelf.Lists.{append-assoc, append-nil, length-set, length-drop, take-append-drop, take-all, length-take-le, drop-all, getD-set-same, getD-set-other, ext-getD, getD-drop}
 use Rattle.std.proofs.shelf.Tests.{cases-eq, cases-order}
-use Rattle.model.specs.Paper.{Cell, new-cells}
-use Rattle.slots.specs.Cells.{cellAt, cellsAt, Kept}
-use Rattle.pieces.specs.Store.{slot, used, piece, strung, cells-of, before, Order, Frame}
-use Rattle.pieces.specs.Edits.{replaced, Resized, Recounted, Changed, Shifted, Rotated, Same-text, Cut}
-use Rattle.pieces.proofs.Strung.{strung-same, strung-none, strung-zero, strung-at, strung-more, strung-split, take-within, drop-within}
-use Rattle.pieces.proofs.Texts.{length-piece, length-before}
-use Rattle.pieces.proofs.Change.{frame-both, frame-words, resized-order}
+use Rattle.model.specs.Paper.{Cell}
+use Rattle.slots.specs.Cells.{cellsAt}
+use Rattle.pieces.specs.Marks.{Has}
+use Rattle.pieces.specs.Store.{slot, used, piece, strung, cells-of, before, Marked, Order, Frame}
+use Rattle.pieces.specs.Edits.{Recounted, Shifted, Rotated, Same-text, Cut}
+use Rattle.pieces.proofs.Strung.{strung-same, strung-none, strung-at, strung-split}
+use Rattle.pieces.proofs.Texts.{length-piece}
+use Rattle.pieces.proofs.Sets.{marks-moved}
+use Rattle.pieces.proofs.Change.{frame-both, frame-words, resized-order, carried}
 
 -- two lists with only empty ones between
 pub strung-pair : (f : ℕ → List Cell) (i j s : ℕ) → i < j → j < s → ((k : ℕ) → i < k → k < j → f k ≡ [])
@@ -172,10 +173,23 @@ module _ (p q r : List ℕ) (s k : ℕ) (o : Order p s) (l : k + 1 < s) (h : Rot
         cells-long = refl;
         words-long = long;
         cells-past = refl;
-        words-past = ext-getD 0 (drop 6144 r) (drop 6144 p) (length-drop 6144 r ∙ ap (λ n. n - 6144) long ∙ sym (length-drop 6144 p))
-            (λ i a. getD-drop 6144 r i 0 ∙ g .above (6144 + i) (omega arith) ∙ h .above (6144 + i) (omega arith) ∙ sym (getD-drop 6144 p i 0));
+        words-past = ext-getD 0 (drop 10240 r) (drop 10240 p) (length-drop 10240 r ∙ ap (λ n. n - 10240) long ∙ sym (length-drop 10240 p))
+            (λ i a. getD-drop 10240 r i 0 ∙ g .above (10240 + i) (omega arith) ∙ h .above (10240 + i) (omega arith) ∙ sym (getD-drop 10240 p i 0));
         spare = slot-past;
       }
+
+  rotated-has : (i m : ℕ) → Has p i m → Has r i m
+  rotated-has i m x =
+      record { low = rw (word (6144 + i) (omega arith)) (x .low); high = rw (word (8192 + i) (omega arith)) (x .high) }
+    where
+      word : (w : ℕ) → 6144 ≤ w → getD r w 0 ≡ getD p w 0
+      word w a = let n = o .most in g .above w (omega arith) ∙ h .above w (omega arith)
+
+  pub rotated-marked : (c : List ℕ) → Marked c p s → Marked c r s
+  rotated-marked c mk j a =
+      let w = was j a in
+      let i = w .0 in
+      rw (same-piece c r p j i (w .1) (w .2), w .1) (marks-moved p r (slot p i) (slot p i) (piece c p i) (rotated-has (slot p i)) (mk i (w .3)))
 
   module _ (none : used p (s - 1) ≡ 0) where
     pub rotated-next : used r (k + 1) ≡ 0
@@ -206,12 +220,14 @@ module _ (c p q : List ℕ) (s : ℕ) (o : Order p s) (h : Recounted p q) where
         order = resized-order p q s 0 (used p 0) o h i (o .small 0 i);
         frame = frame-words c p q s 0 (used p 0) h;
         text = strung-same (piece c q) (piece c p) 0 0 s (λ j a. same-piece c q p (0 + j) (0 + j) (h .order (0 + j) (omega arith)) (recounted-used (0 + j) (omega arith)));
+        marked = λ mk j a. rw (same-piece c q p j j (h .order j (omega arith)) (recounted-used j a))
+            (carried p q s o (λ k l. h .order k (omega arith)) (h .has) j a (piece c p j) (mk j a));
       }
 
 -- the text stays the same step by step
 pub same-both : (c p d q e r : List ℕ) (s : ℕ) → Same-text c p d q s → Same-text d q e r s → Same-text c p e r s
 same-both c p d q e r s f g =
-    record { order = g .order; frame = frame-both c p d q e r s (f .frame) (g .frame); text = g .text ∙ f .text }
+    record { order = g .order; frame = frame-both c p d q e r s (f .frame) (g .frame); text = g .text ∙ f .text; marked = λ mk. g .marked (f .marked mk) }
 
 -- lengths are those of pieces
 pub used-from : (c p d q : List ℕ) (k j : ℕ) → piece d q k ≡ piece c p j → used q k ≡ used p j
@@ -248,6 +264,7 @@ module _ (c p d q : List ℕ) (s k o n : ℕ) (w : Order p s) (l : k + 1 < s) (n
         order = h .order;
         frame = h .frame;
         text = strung-pair-same (piece c p) (piece d q) k (k + 1) s (omega arith) l (λ j i m. absurd (omega arith)) (λ j i m m′. h .others j i m′ m) (cc);
+        marked = h .marked;
       }
 
   pub moved-used-here : used q k ≡ o
@@ -270,7 +287,7 @@ cut c p q r d t v s k o n w l a none h g e f i =
     let w′ = rotated-order p q r s k w l h g in
     let next = rotated-next p q r s k w l h g none in
     let here = rotated-here p q r s k w l h g none in
-    let first : Same-text c p c r s = record { order = w′; frame = rotated-frame p q r s k w l h g c; text = rotated-text p q r s k w l h g none c } in
+    let first : Same-text c p c r s = record { order = w′; frame = rotated-frame p q r s k w l h g c; text = rotated-text p q r s k w l h g none c; marked = rotated-marked p q r s k w l h g c } in
     let a′ : o ≤ used r k = omega arith in
     let second = moved-text c r d t s k o n w′ l next a′ e f in
     let third = recounted d t v s (f .order) i in

@@ -1,3 +1,4 @@
+pub mod Sets
 pub mod Strung
 pub mod Texts
 pub mod Counts

@@ -1,22 +1,22 @@
 -- Cells packed together: the text stays the same, and the pieces at the front are well filled.
 use mathlib.Core.Path.{_≡_, refl, sym, ap, _∙_}
-use mathlib.Core.Logic.{_≢_, inl, inr}
-use mathlib.Core.List.{List, [], _∷_, _++_}
+use mathlib.Core.Logic.{inl, inr}
+use mathlib.Core.List.{List}
 use Prim.Native.Nat.{ℕ, zero, suc, _+_, _-_, _*_, _≤_, _<_}
 use native.Mathlib.Nat.{zero-add}
 use native.Mathlib.Omega.{arith}
-use lib.ListN.{length, getD, take, drop}
+use lib.ListN.{length, take, drop}
 use borrow.Author.Count.{below-more}
-use Rattle.std.proofs.shelf.Lists.{append-assoc, length-append, length-drop, length-take-le, take-append-drop}
+use Rattle.std.proofs.shelf.Lists.{append-assoc, length-drop, take-append-drop}
 use Rattle.std.proofs.shelf.Tests.{cases-eq, cases-lt}
-use Rattle.pieces.specs.Store.{slot, used, piece, strung, cells-of, before, Order, Frame}
-use Rattle.pieces.specs.Edits.{replaced, Recounted, Shifted, Same-text, Packed}
+use Rattle.pieces.specs.Store.{used, piece, before, Order}
+use Rattle.pieces.specs.Edits.{Shifted, Same-text, Packed}
 use Rattle.pieces.proofs.Texts.{length-piece, length-text, before-more}
 use Rattle.pieces.proofs.Change.{frame-none}
-use Rattle.pieces.proofs.Cuts.{piece-none, strung-pair-same, used-from, recounted, recounted-used, same-both}
+use Rattle.pieces.proofs.Cuts.{piece-none, strung-pair-same, used-from}
 
 pub same-none : (c p : List ℕ) (s : ℕ) → Order p s → Same-text c p c p s
-same-none c p s o = record { order = o; frame = frame-none c p s; text = refl }
+same-none c p s o = record { order = o; frame = frame-none c p s; text = refl; marked = λ mk. mk }
 
 pub same-before : (c p d q : List ℕ) (s : ℕ) → Same-text c p d q s → before q s ≡ before p s
 same-before c p d q s h = sym (length-text d q s) ∙ ap length (h .text) ∙ length-text c p s
@@ -51,6 +51,7 @@ module _ (c p d q : List ℕ) (s i j n : ℕ) (l : i < j) (m : j < s) (a : n ≤
         order = h .order;
         frame = h .frame;
         text = strung-pair-same (piece c p) (piece d q) i j s l m (λ x y z. piece-none c p x (k .empty x y z)) (h .others) (cc);
+        marked = h .marked;
       }
 
   pub poured-packed : Packed q i j

@@ -1,11 +1,11 @@
 -- Laws of lists that are strung one after the other.
-use mathlib.Core.Path.{_≡_, refl, sym, ap, _∙_}
+use mathlib.Core.Path.{_≡_, refl, ap, _∙_}
 use mathlib.Core.List.{List, [], _∷_, _++_, append-assoc}
-use Prim.Native.Nat.{ℕ, zero, suc, _+_, _-_, _*_, _≤_, _<_}
+use Prim.Native.Nat.{ℕ, zero, suc, _+_, _-_, _≤_, _<_}
 use native.Mathlib.Nat.{add-zero, zero-add, add-suc, suc-add}
 use native.Mathlib.Omega.{arith}
-use lib.ListN.{length, getD, take, drop}
-use Rattle.std.proofs.shelf.Lists.{append-nil, length-append, drop-drop, drop-at, drop-append-le, take-append-le}
+use lib.ListN.{length, take, drop}
+use Rattle.std.proofs.shelf.Lists.{append-nil, drop-append-le, take-append-le}
 use Rattle.model.specs.Paper.{Cell}
 use Rattle.pieces.specs.Store.{strung}
 

@@ -1,16 +1,15 @@
 -- The text piece by piece: what stands at a place, and how far a walk over the pieces has come.
-use mathlib.Core.Path.{_≡_, refl, sym, ap, _∙_}
-use mathlib.Core.List.{List, [], _∷_, _++_}
+use mathlib.Core.Path.{_≡_, sym, ap, _∙_}
+use mathlib.Core.List.{List, _∷_, _++_}
 use Prim.Native.Nat.{ℕ, zero, suc, _+_, _-_, _*_, _≤_, _<_}
-use native.Mathlib.Nat.{add-zero, zero-add, add-suc, suc-add, add-assoc}
+use native.Mathlib.Nat.{add-zero, add-suc}
 use native.Mathlib.Numerals.{add-one}
 use native.Mathlib.Omega.{arith}
-use lib.ListN.{length, getD, take, drop}
-use Rattle.std.proofs.shelf.Lists.{length-append, drop-more, getD-drop, drop-all}
-use Rattle.model.specs.Paper.{Cell}
-use Rattle.slots.specs.Cells.{cellAt, cellsAt}
+use lib.ListN.{length, getD, drop}
+use Rattle.std.proofs.shelf.Lists.{length-append, drop-more, getD-drop}
+use Rattle.slots.specs.Cells.{cellAt}
 use Rattle.slots.proofs.Words.{length-cells, getD-cells}
-use Rattle.pieces.specs.Store.{slot, used, number, piece, strung, cells-of, before, no-cell, Order, Store}
+use Rattle.pieces.specs.Store.{slot, used, number, piece, strung, cells-of, before, no-cell}
 use Rattle.pieces.proofs.Strung.{strung-zero, strung-at, strung-more, drop-within}
 
 pub length-piece : (c p : List ℕ) (k : ℕ) → length (piece c p k) ≡ used p k
@@ -73,10 +72,6 @@ drop-text-more c p s k j l m =
 -- the next piece begins where piece k ends
 pub drop-text-next : (c p : List ℕ) (s k : ℕ) → drop (before p (k + 1) + 0) (cells-of c p s) ≡ drop (before p k + used p k) (cells-of c p s)
 drop-text-next c p s k = rw (add-zero, before-more)
-
--- after the last piece nothing is left
-pub drop-text-end : (c p : List ℕ) (s : ℕ) → drop (before p s) (cells-of c p s) ≡ []
-drop-text-end c p s = let e = length-text c p s in drop-all (before p s) (cells-of c p s) (omega arith)
 
 -- cell j of piece k stands at its place in the text
 pub text-at : (c p : List ℕ) (s k j : ℕ) → k < s → j < used p k → getD (cells-of c p s) (before p k + j) no-cell ≡ cellAt c (number p k j)

@@ -1,14 +1,17 @@
 -- A paper's cells kept in pieces. The words `c` hold s slots of 1,024 cells. The words `p` hold the order, word k the slot of piece k, and from word 2048
 -- on a tree of counts, whose leaf k, word 4096 + k, says how many cells piece k has: they stand at the front of its slot. Every slot is a piece, so
--- that one which is not used has no cells. The text is all pieces, one after the other.
+-- that one which is not used has no cells. The text is all pieces, one after the other. Words 6144 + i and 8192 + i are the set of marks of slot i, which has
+-- at least the marks of the piece in it.
 use mathlib.Core.Path.{_≡_}
-use mathlib.Core.List.{List, [], _∷_, _++_}
+use mathlib.Core.List.{List, [], _++_}
 use Prim.Native.Nat.{ℕ, zero, suc, _+_, _-_, _*_, _≤_, _<_}
 use lib.ListN.{length, getD, drop, replicate}
 use Rattle.std.specs.Iters.{counting}
 use Rattle.model.specs.Paper.{Cell}
-use Rattle.slots.specs.Cells.{cellAt, cellsAt}
+use Rattle.slots.specs.Cells.{cellsAt}
 use Rattle.tree.specs.Tree.{Sums}
+use Rattle.std.specs.shelf.Lists.{All}
+use Rattle.pieces.specs.Marks.{Marks}
 
 -- the slot of piece k
 abbrev pub slot : List ℕ → ℕ → ℕ
@@ -52,7 +55,7 @@ no-cell = record { letter = 0; style = 0; put-in = 0; struck = 0 }
 pub record Order (p : List ℕ) (s : ℕ) : Type 0 where
   pub some : 0 < s
   pub most : s ≤ 2048
-  pub words : 6144 ≤ length p
+  pub words : 10240 ≤ length p
   -- each piece has a slot
   pub inside : (k : ℕ) → k < s → slot p k < s
   -- and no other piece has it
@@ -67,10 +70,15 @@ pub record Table (p : List ℕ) (s : ℕ) : Type 0 where
   pub order : Order p s
   pub sums : Sums (drop 2048 p)
 
+-- the set of each piece has the marks of its cells
+abbrev pub Marked : List ℕ → List ℕ → ℕ → Type 0
+Marked c p s = (k : ℕ) → k < s → All (Marks p (slot p k)) (piece c p k)
+
 -- what always holds of a store of s slots
 pub record Store (c p : List ℕ) (s : ℕ) : Type 0 where
   pub room : 4096 * s ≤ length c
   pub table : Table p s
+  pub marked : Marked c p s
 
 -- what no change of a store of s slots touches: c and p before, d and q after
 pub record Frame (c p d q : List ℕ) (s : ℕ) : Type 0 where
@@ -78,8 +86,8 @@ pub record Frame (c p d q : List ℕ) (s : ℕ) : Type 0 where
   pub words-long : length q ≡ length p
   -- words past the slots
   pub cells-past : drop (4096 * s) d ≡ drop (4096 * s) c
-  -- words past the tree
-  pub words-past : drop 6144 q ≡ drop 6144 p
+  -- words past the sets of marks
+  pub words-past : drop 10240 q ≡ drop 10240 p
   -- words between the order and the tree
   pub spare : (k : ℕ) → s ≤ k → k < 2048 → getD q k 0 ≡ getD p k 0
 
@@ -106,4 +114,4 @@ abbrev pub cleared-cells : List ℕ → ℕ → List ℕ
 cleared-cells c s = replicate (4096 * s) 0 ++ drop (4096 * s) c
 
 abbrev pub cleared-words : List ℕ → ℕ → List ℕ
-cleared-words p s = counting 0 s ++ (replicate (6144 - s) 0 ++ drop 6144 p)
+cleared-words p s = counting 0 s ++ (replicate (10240 - s) 0 ++ drop 10240 p)

@@ -1,28 +1,39 @@
 // A paper's cells kept in pieces, over two lent slices of words: `c` has `s` slots of 1,024 cells, and `p` says in which order the slots stand (words 0
-// to 2047) and how many cells each has (from word 2048 on, a tree of counts with 2,048 leaves). Every slot is a piece of the text, an unused one has no
-// cells. Words of `c` past the slots and words of `p` past 6144 are never touched.
+// to 2047), how many cells each has (from word 2048 on, a tree of counts with 2,048 leaves) and which marks they may have (from word 6144 on, two words
+// a slot). Every slot is a piece of the text, an unused one has no cells. Words of `c` past the slots and words of `p` past 10240 are never touched.
 ghost use mathlib.Core.Path.{_≡_};
-ghost use mathlib.Core.List.{_++_, []};
+ghost use mathlib.Core.Bool.{false};
+ghost use mathlib.Core.List.{List, _++_, []};
 ghost use mathlib.Core.Logic.{_≢_};
 ghost use Prim.Native.Nat.{ℕ, _+_, _-_, _*_, _/_, _<_, _≤_};
 ghost use lib.ListN.{length, getD, set, take, drop, replicate};
 ghost use Rattle.model.specs.Values.{cell-of};
 ghost use Rattle.std.specs.Iters.{counting};
-ghost use Rattle.pieces.specs.Store.{used as uses, number, piece, cells-of, before, no-cell, cleared-cells, cleared-words, Edited, Gap, Located, Order, Table, Store};
+ghost use Rattle.pieces.specs.Store.{used as uses, slot, number, piece, cells-of, before, no-cell, cleared-cells, cleared-words, Edited, Gap, Located, Order, Table, Store};
+ghost use Rattle.std.specs.shelf.Lists.{All};
+ghost use Rattle.pieces.specs.Marks.{has, noted, noted-cells, with-set, Beside, Grown, Has, Joined, Lacks, Marks};
 ghost use Rattle.pieces.specs.Edits.{replaced, Changed, Cut, Filled, Packed, Recounted, Resized, Rotated, Same-text, Shifted};
 ghost use Rattle.model.specs.Paper.{new-cells};
+ghost use Rattle.slots.specs.Cells.{cellsAt};
 ghost use Rattle.tree.specs.Tree.{Sums};
 use model::Cell;
 
+// How many cells a slot takes.
 const CELLS: usize = 1024;
 
+// How many cells a piece gets when pieces are packed: room is left, so that not every put cuts a piece.
 const FULL: usize = 768;
 
+// The words of `p` where the tree begins, where its leaves begin, where the first and the second words of the sets of marks begin, and where these end.
 const TREE: usize = 2048;
 
 const LEAVES: usize = 4096;
 
-const WORDS: usize = 6144;
+const LOW: usize = 6144;
+
+const HIGH: usize = 8192;
+
+const WORDS: usize = 10240;
 
 // A piece, and a place in it.
 #[derive(Clone, Copy)]
@@ -92,13 +103,58 @@ pub fn locate(p: &[u32], s: usize, place: usize) -> Spot
 }
 
 // Writes cell `o` of piece `k`.
-pub fn overwrite(c: &mut [u32], p: &[u32], s: usize, k: usize, o: usize, cell: Cell)
+pub fn overwrite(c: &mut [u32], p: &mut [u32], s: usize, k: usize, o: usize, cell: Cell)
     requires store { ⌜ Store (now c) (now p) s ⌝ }
     requires here { ⌜ k < s ⌝ }
     requires within { ⌜ o < uses (now p) k ⌝ }
-    ensures { λ _. ⌜ Edited (now (c .entry)) (now (p .entry)) (now (c .exit)) (now (p .entry)) s (set (cells-of (now (c .entry)) (now (p .entry)) s) (before (now (p .entry)) k + o) (cell-of cell)) ⌝ }
+    ensures { λ _. ⌜ Edited (now (c .entry)) (now (p .entry)) (now (c .exit)) (now (p .exit)) s (set (cells-of (now (c .entry)) (now (p .entry)) s) (before (now (p .entry)) k + o) (cell-of cell)) ⌝ }
 {
     slots::write(c, number_of(p, s, k, o), cell);
+    let i = p[k] as usize;
+    note(p, i, cell.put_in);
+    note(p, i, cell.struck);
+}
+
+// Whether piece `k` may have a cell with the mark. If not, it has none.
+pub fn may_have(p: &[u32], s: usize, k: usize, mark: u32) -> bool
+    requires order { ⌜ Order (now p) s ⌝ }
+    requires here { ⌜ k < s ⌝ }
+    requires some { ⌜ 0 < mark ⌝ }
+    ensures is { λ r. ⌜ r ≡ has (now (p .entry)) (slot (now (p .entry)) k) mark ⌝ }
+    ensures lacks { λ r. ⌜ (r ≡ false → (c : List ℕ) → Store c (now (p .entry)) s → All (Lacks mark) (piece c (now (p .entry)) k)) ⌝ }
+{
+    let i = p[k] as usize;
+    let low = (p[LOW + i] >> (mark % 32)) % 2;
+    let high = (p[HIGH + i] >> (mark / 32 % 32)) % 2;
+    (low == 1) & (high == 1)
+}
+
+// The set of marks of piece `k` gets the mark.
+pub fn add_mark(p: &mut [u32], s: usize, k: usize, mark: u32)
+    requires order { ⌜ Order (now p) s ⌝ }
+    requires here { ⌜ k < s ⌝ }
+    requires some { ⌜ 0 < mark ⌝ }
+    ensures is { λ _. ⌜ now (p .exit) ≡ noted (now (p .entry)) (slot (now (p .entry)) k) mark ⌝ }
+    ensures grown { λ _. ⌜ Grown (now (p .entry)) (now (p .exit)) ⌝ }
+    ensures has { λ _. ⌜ Has (now (p .exit)) (slot (now (p .entry)) k) mark ⌝ }
+{
+    let i = p[k] as usize;
+    note(p, i, mark);
+}
+
+// Makes the set of marks of piece `k` anew: it then has the marks of its cells, and no others.
+pub fn remark(c: &[u32], p: &mut [u32], s: usize, k: usize)
+    requires store { ⌜ Store (now c) (now p) s ⌝ }
+    requires here { ⌜ k < s ⌝ }
+    ensures is { λ _. ⌜ now (p .exit) ≡ noted-cells (with-set (now (p .entry)) (slot (now (p .entry)) k) 0 0) (slot (now (p .entry)) k) (piece (now (c .entry)) (now (p .entry)) k) ⌝ }
+    ensures beside { λ _. ⌜ Beside (now (p .entry)) (now (p .exit)) ⌝ }
+    ensures store { λ _. ⌜ Store (now (c .entry)) (now (p .exit)) s ⌝ }
+{
+    let i = p[k] as usize;
+    let n = used(p, k);
+    p[LOW + i] = 0;
+    p[HIGH + i] = 0;
+    note_cells(p, i, c, CELLS * i, n);
 }
 
 // Puts letters into the text at `place`: new cells in one style, put in by one change.
@@ -118,16 +174,38 @@ pub fn put(
     requires mark { ⌜ change < 4294967295 ⌝ }
     ensures { λ _. ⌜ Edited (now (c .entry)) (now (p .entry)) (now (c .exit)) (now (p .exit)) s (take place (cells-of (now (c .entry)) (now (p .entry)) s) ++ (new-cells (now (letters .entry)) style change ++ drop place (cells-of (now (c .entry)) (now (p .entry)) s))) ⌝ }
 {
+    let mut new = [0; 4 * CELLS];
+    slots::fill(&mut new, 0, letters, style, change);
+    insert(c, p, s, place, &new, 0, letters.len());
+}
+
+// Puts `n` cells of `new`, from its number `from` on, into the text at `place`.
+pub fn insert(
+    c: &mut [u32],
+    p: &mut [u32],
+    s: usize,
+    place: usize,
+    new: &[u32],
+    from: usize,
+    n: usize,
+)
+    requires store { ⌜ Store (now c) (now p) s ⌝ }
+    requires place { ⌜ place ≤ length (cells-of (now c) (now p) s) ⌝ }
+    requires source { ⌜ 4 * (from + n) ≤ length (now new) ⌝ }
+    requires few { ⌜ n ≤ 1024 ⌝ }
+    requires fits { ⌜ length (cells-of (now c) (now p) s) + n ≤ 768 * (s - 1) ⌝ }
+    ensures { λ _. ⌜ Edited (now (c .entry)) (now (p .entry)) (now (c .exit)) (now (p .exit)) s (take place (cells-of (now (c .entry)) (now (p .entry)) s) ++ (cellsAt (now (new .entry)) from n ++ drop place (cells-of (now (c .entry)) (now (p .entry)) s))) ⌝ }
+{
     let spot = gap(p, s, place);
-    let has = used(p, spot.piece) + letters.len();
+    let has = used(p, spot.piece) + n;
     let last = used(p, s - 1);
     if has <= CELLS || last == 0 {
-        insert(c, p, s, spot, letters, style, change);
+        insert_at(c, p, s, spot, new, from, n);
         return;
     }
     repack(c, p, s);
     let spot = gap(p, s, place);
-    insert(c, p, s, spot, letters, style, change);
+    insert_at(c, p, s, spot, new, from, n);
 }
 
 // Takes `n` cells out of the text, from `place` on.
@@ -142,12 +220,12 @@ pub fn remove(c: &mut [u32], p: &mut [u32], s: usize, place: usize, n: usize)
     }
 }
 
-// Makes an empty text in `s` slots. Every word of the slots, the order and the tree is known afterwards.
+// Makes an empty text in `s` slots. Every word of the slots, the order, the tree and the sets is known afterwards.
 pub fn clear(c: &mut [u32], p: &mut [u32], s: usize)
     requires some { ⌜ 0 < s ⌝ }
     requires most { ⌜ s ≤ 2048 ⌝ }
     requires cells { ⌜ 4096 * s ≤ length (now c) ⌝ }
-    requires words { ⌜ 6144 ≤ length (now p) ⌝ }
+    requires words { ⌜ 10240 ≤ length (now p) ⌝ }
     ensures cells { λ _. ⌜ now (c .exit) ≡ cleared-cells (now (c .entry)) s ⌝ }
     ensures words { λ _. ⌜ now (p .exit) ≡ cleared-words (now (p .entry)) s ⌝ }
     ensures store { λ _. ⌜ Store (now (c .exit)) (now (p .exit)) s ⌝ }
@@ -198,35 +276,26 @@ fn gap(p: &[u32], s: usize, place: usize) -> Spot
     }
 }
 
-// Puts the letters in at a gap. If they do not fit the piece there, it is cut at the gap, which takes the last piece.
-fn insert(
-    c: &mut [u32],
-    p: &mut [u32],
-    s: usize,
-    spot: Spot,
-    letters: &[u8],
-    style: u32,
-    change: u32,
-)
+// Puts the cells in at a gap. If they do not fit the piece there, it is cut at the gap, which takes the last piece.
+fn insert_at(c: &mut [u32], p: &mut [u32], s: usize, spot: Spot, new: &[u32], from: usize, n: usize)
     requires store { ⌜ Store (now c) (now p) s ⌝ }
     requires here { ⌜ spot .piece < s ⌝ }
     requires within { ⌜ spot .offset ≤ uses (now p) (spot .piece) ⌝ }
-    requires few { ⌜ length (now letters) ≤ 1024 ⌝ }
-    requires spare { ⌜ (1024 < uses (now p) (spot .piece) + length (now letters) → uses (now p) (s - 1) ≡ 0) ⌝ }
-    requires mark { ⌜ change < 4294967295 ⌝ }
-    ensures { λ _. ⌜ Edited (now (c .entry)) (now (p .entry)) (now (c .exit)) (now (p .exit)) s (replaced (cells-of (now (c .entry)) (now (p .entry)) s) (before (now (p .entry)) (spot .piece) + spot .offset) 0 (new-cells (now (letters .entry)) style change)) ⌝ }
+    requires source { ⌜ 4 * (from + n) ≤ length (now new) ⌝ }
+    requires few { ⌜ n ≤ 1024 ⌝ }
+    requires spare { ⌜ (1024 < uses (now p) (spot .piece) + n → uses (now p) (s - 1) ≡ 0) ⌝ }
+    ensures { λ _. ⌜ Edited (now (c .entry)) (now (p .entry)) (now (c .exit)) (now (p .exit)) s (replaced (cells-of (now (c .entry)) (now (p .entry)) s) (before (now (p .entry)) (spot .piece) + spot .offset) 0 (cellsAt (now (new .entry)) from n)) ⌝ }
 {
     let k = spot.piece;
     let o = spot.offset;
-    let n = letters.len();
     if used(p, k) + n <= CELLS {
-        insert_here(c, p, s, k, o, letters, style, change);
+        insert_here(c, p, s, k, o, new, from, n);
         return;
     }
     split(c, p, s, k, o);
     let first = n.min(CELLS - o);
-    insert_here(c, p, s, k, o, &letters[0..first], style, change);
-    insert_here(c, p, s, k + 1, 0, &letters[first..], style, change);
+    insert_here(c, p, s, k, o, new, from, first);
+    insert_here(c, p, s, k + 1, 0, new, from + first, n - first);
 }
 
 // Takes out cells from `place` on, as far as one piece has them and at most `n`. Returns how many.
@@ -276,28 +345,70 @@ fn recount(p: &mut [u32], s: usize)
     tree::rebuild(&mut p[TREE..]);
 }
 
-// Makes room for the letters in the slot of piece `k`, from its cell `o` on, and writes them there.
+// The set of marks of slot `i` gets the mark, if it is one.
+fn note(p: &mut [u32], i: usize, mark: u32)
+    requires inside { ⌜ i < 2048 ⌝ }
+    requires words { ⌜ 10240 ≤ length (now p) ⌝ }
+    ensures { λ _. ⌜ now (p .exit) ≡ noted (now (p .entry)) i mark ⌝ }
+{
+    if mark == 0 {
+        return;
+    }
+    let low = p[LOW + i] | (1 << (mark % 32));
+    let high = p[HIGH + i] | (1 << (mark / 32 % 32));
+    p[LOW + i] = low;
+    p[HIGH + i] = high;
+}
+
+// The set of slot `i` gets the marks of `n` cells of `c`, from number `from` on.
+fn note_cells(p: &mut [u32], i: usize, c: &[u32], from: usize, n: usize)
+    requires inside { ⌜ i < 2048 ⌝ }
+    requires words { ⌜ 10240 ≤ length (now p) ⌝ }
+    requires source { ⌜ 4 * (from + n) ≤ length (now c) ⌝ }
+    ensures { λ _. ⌜ now (p .exit) ≡ noted-cells (now (p .entry)) i (cellsAt (now (c .entry)) from n) ⌝ }
+{
+    for j in 0..n {
+        let cell = slots::read(c, from + j);
+        note(p, i, cell.put_in);
+        note(p, i, cell.struck);
+    }
+}
+
+// The set of slot `a` gets the marks of that of slot `b`.
+fn join(p: &mut [u32], a: usize, b: usize)
+    requires target { ⌜ a < 2048 ⌝ }
+    requires source { ⌜ b < 2048 ⌝ }
+    requires words { ⌜ 10240 ≤ length (now p) ⌝ }
+    ensures { λ _. ⌜ Joined (now (p .entry)) (now (p .exit)) a b ⌝ }
+{
+    let low = p[LOW + a] | p[LOW + b];
+    let high = p[HIGH + a] | p[HIGH + b];
+    p[LOW + a] = low;
+    p[HIGH + a] = high;
+}
+
+// Makes room for the cells in the slot of piece `k`, from its cell `o` on, and writes them there.
 fn insert_cells(
     c: &mut [u32],
     p: &[u32],
     s: usize,
     k: usize,
     o: usize,
-    letters: &[u8],
-    style: u32,
-    change: u32,
+    new: &[u32],
+    from: usize,
+    n: usize,
 )
     requires order { ⌜ Order (now p) s ⌝ }
     requires room { ⌜ 4096 * s ≤ length (now c) ⌝ }
     requires here { ⌜ k < s ⌝ }
     requires within { ⌜ o ≤ uses (now p) k ⌝ }
-    requires fits { ⌜ uses (now p) k + length (now letters) ≤ 1024 ⌝ }
-    requires mark { ⌜ change < 4294967295 ⌝ }
-    ensures { λ _. ⌜ Filled (now (c .entry)) (now (c .exit)) (now (p .entry)) k (replaced (piece (now (c .entry)) (now (p .entry)) k) o 0 (new-cells (now (letters .entry)) style change)) ⌝ }
+    requires source { ⌜ 4 * (from + n) ≤ length (now new) ⌝ }
+    requires fits { ⌜ uses (now p) k + n ≤ 1024 ⌝ }
+    ensures { λ _. ⌜ Filled (now (c .entry)) (now (c .exit)) (now (p .entry)) k (replaced (piece (now (c .entry)) (now (p .entry)) k) o 0 (cellsAt (now (new .entry)) from n)) ⌝ }
 {
     let at = number_of(p, s, k, o);
-    slots::copy(c, at, at + letters.len(), used(p, k) - o);
-    slots::fill(c, at, letters, style, change);
+    slots::copy(c, at, at + n, used(p, k) - o);
+    slots::paste(c, at, new, from, n);
 }
 
 // Takes `n` cells out of the slot of piece `k`, from its cell `o` on.
@@ -325,28 +436,31 @@ fn append_cells(c: &mut [u32], p: &[u32], s: usize, i: usize, j: usize, o: usize
     slots::copy(c, number_of(p, s, j, o), number_of(p, s, i, used(p, i)), n);
 }
 
-// Puts the letters into piece `k` before its cell `o`. They fit its slot.
+// Puts the cells into piece `k` before its cell `o`. They fit its slot.
 fn insert_here(
     c: &mut [u32],
     p: &mut [u32],
     s: usize,
     k: usize,
     o: usize,
-    letters: &[u8],
-    style: u32,
-    change: u32,
+    new: &[u32],
+    from: usize,
+    n: usize,
 )
     requires store { ⌜ Store (now c) (now p) s ⌝ }
     requires here { ⌜ k < s ⌝ }
     requires within { ⌜ o ≤ uses (now p) k ⌝ }
-    requires fits { ⌜ uses (now p) k + length (now letters) ≤ 1024 ⌝ }
-    requires mark { ⌜ change < 4294967295 ⌝ }
-    ensures changed { λ _. ⌜ Changed (now (c .entry)) (now (p .entry)) (now (c .exit)) (now (p .exit)) s k (replaced (piece (now (c .entry)) (now (p .entry)) k) o 0 (new-cells (now (letters .entry)) style change)) ⌝ }
+    requires source { ⌜ 4 * (from + n) ≤ length (now new) ⌝ }
+    requires fits { ⌜ uses (now p) k + n ≤ 1024 ⌝ }
+    ensures changed { λ _. ⌜ Changed (now (c .entry)) (now (p .entry)) (now (c .exit)) (now (p .exit)) s k (replaced (piece (now (c .entry)) (now (p .entry)) k) o 0 (cellsAt (now (new .entry)) from n)) ⌝ }
     ensures sums { λ _. ⌜ Sums (drop 2048 (now (p .exit))) ⌝ }
+    ensures marks { λ _. ⌜ All (Marks (now (p .exit)) (slot (now (p .exit)) k)) (cellsAt (now (new .entry)) from n) ⌝ }
 {
-    insert_cells(c, p, s, k, o, letters, style, change);
-    let n = used(p, k) + letters.len();
-    resize(p, k, n);
+    insert_cells(c, p, s, k, o, new, from, n);
+    let more = used(p, k) + n;
+    resize(p, k, more);
+    let i = p[k] as usize;
+    note_cells(p, i, new, from, n);
 }
 
 // Takes `n` cells out of piece `k`, from its cell `o` on.
@@ -373,9 +487,12 @@ fn shift(c: &mut [u32], p: &mut [u32], s: usize, i: usize, j: usize, o: usize, n
     requires fits { ⌜ uses (now p) i + n ≤ 1024 ⌝ }
     ensures { λ _. ⌜ Shifted (now (c .entry)) (now (p .entry)) (now (c .exit)) (now (p .exit)) s i j o n ⌝ }
 {
+    let target = p[i] as usize;
+    let source = p[j] as usize;
     append_cells(c, p, s, i, j, o, n);
     let more = used(p, i) + n;
     set_length(p, i, more);
+    join(p, target, source);
     remove_cells(c, p, s, j, o, n);
     let left = used(p, j) - n;
     set_length(p, j, left);

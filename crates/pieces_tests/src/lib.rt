@@ -14,7 +14,7 @@ mod tests {
     // As many cells as five slots take for sure.
     const MOST: usize = 3072;
 
-    // The store holds the first `n` cells of the row.
+    // The store holds the first `n` cells of the row, and their marks are in the sets.
     fn same(c: &[u32], p: &[u32], row: &[Cell], n: usize) -> Result<(), Fail>
         requires { ⌜ Store (now c) (now p) 5 ⌝ }
     {
@@ -27,6 +27,12 @@ mod tests {
             check(cell.style == row[place].style)?;
             check(cell.put_in == row[place].put_in)?;
             check(cell.struck == row[place].struck)?;
+            if cell.put_in > 0 {
+                check(pieces::may_have(p, SLOTS, spot.piece, cell.put_in))?;
+            }
+            if cell.struck > 0 {
+                check(pieces::may_have(p, SLOTS, spot.piece, cell.struck))?;
+            }
         }
         Ok(())
     }
@@ -122,14 +128,14 @@ mod tests {
     {
         let mut n = 0;
         let mut seed: usize = 1;
-        for change in 0..400 {
+        for change in 0..300 {
             seed = (seed * 75 + 74) % 65537;
             let many = 1 + seed % 299;
-            let place = seed % (n % MOST + 1);
+            let place = seed % (n.min(MOST) + 1);
             if n <= MOST && n + many <= MOST {
                 n = put(c, p, row, place, &letters[0..many], change)?;
             } else {
-                n = remove(c, p, row, place / 2, n % MOST / 3)?;
+                n = remove(c, p, row, place / 2, n / 3)?;
             }
             let cell = Cell {
                 letter: 10,
@@ -146,7 +152,7 @@ mod tests {
     #[test]
     fn edits() -> Result<(), Fail> {
         let mut c = [7; 20480];
-        let mut p = [7; 6144];
+        let mut p = [7; 10240];
         let none = Cell {
             letter: 0,
             style: 0,

@@ -54,13 +54,13 @@ module _ (n c u : ℕ) (ps begun-words after-tables : List ℕ)
       let s : ℕ = slots-for n in
       let h = length-head n c u in
       let d : drop (16 + 2 * c) begun-words ≡ drop (16 + 2 * c) ps = ap (drop (16 + 2 * c)) begins ∙ drop-at (head n c u) (drop (16 + 2 * c) ps) (16 + 2 * c) h in
-      let k : 16 + 2 * c + 6144 ≡ 6160 + 2 * c = omega arith in
-      let dd : drop 6144 (drop (16 + 2 * c) ps) ≡ drop (6160 + 2 * c) ps = drop-drop 6144 (16 + 2 * c) ps ∙ ap (λ (m : ℕ). drop m ps) k in
-      let f : drop 6144 (drop (16 + 2 * c) begun-words) ≡ drop (6160 + 2 * c) ps = ap (drop 6144) d ∙ dd in
-      let t : after-tables ≡ counting 0 s ++ (replicate (6144 - s) 0 ++ drop (6160 + 2 * c) ps) =
-      clears ∙ ap (λ (xs : List ℕ). counting 0 s ++ (replicate (6144 - s) 0 ++ xs)) f in
-      let a = append-assoc (counting 0 s) (replicate (6144 - s) 0) (drop (6160 + 2 * c) ps) in
-      let b = append-assoc (head n c u) (counting 0 s ++ replicate (6144 - s) 0) (drop (6160 + 2 * c) ps) in
+      let k : 16 + 2 * c + 10240 ≡ 10256 + 2 * c = omega arith in
+      let dd : drop 10240 (drop (16 + 2 * c) ps) ≡ drop (10256 + 2 * c) ps = drop-drop 10240 (16 + 2 * c) ps ∙ ap (λ (m : ℕ). drop m ps) k in
+      let f : drop 10240 (drop (16 + 2 * c) begun-words) ≡ drop (10256 + 2 * c) ps = ap (drop 10240) d ∙ dd in
+      let t : after-tables ≡ counting 0 s ++ (replicate (10240 - s) 0 ++ drop (10256 + 2 * c) ps) =
+      clears ∙ ap (λ (xs : List ℕ). counting 0 s ++ (replicate (10240 - s) 0 ++ xs)) f in
+      let a = append-assoc (counting 0 s) (replicate (10240 - s) 0) (drop (10256 + 2 * c) ps) in
+      let b = append-assoc (head n c u) (counting 0 s ++ replicate (10240 - s) 0) (drop (10256 + 2 * c) ps) in
       words-are ∙ (ap (λ (xs : List ℕ). head n c u ++ xs) (t ∙ sym a) ∙ sym b)
 
   cleared-length : n ≤ 1000000 → pieces-words c ≤ length ps → length after-tables ≡ length ps - (16 + 2 * c)

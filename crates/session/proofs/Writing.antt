@@ -56,9 +56,9 @@ restored cs ps cs′ t xs held store frame text few =
     (λ i low high. getD-drop 16 q i 0 ∙ (same (16 + i) (omega (arith, held .changes-fit)) ∙ sym (getD-drop 16 ps i 0))) in
     let row′ : changes-of (drop 16 q) (getD q 3 0) ≡ changes-of (drop 16 ps) (getD ps 3 0) = ap (λ (k : ℕ). changes-of (drop 16 q) k) g3 ∙ row in
     let cells : cells-of cs′ (tables q) (slots-for (getD q 0 0)) ≡ xs = rw (tab, slots) text in
-    let e : 6160 + 2 * c ≡ b + 6144 = omega arith in
-    let past : drop (6160 + 2 * c) q ≡ drop (6160 + 2 * c) ps =
-    ap (λ (k : ℕ). drop k q) e ∙ (sym (drop-drop 6144 b q) ∙ (ap (drop 6144) back ∙ (frame .words-past ∙ (drop-drop 6144 b ps ∙ ap (λ (k : ℕ). drop k ps) (sym e))))) in
+    let e : 10256 + 2 * c ≡ b + 10240 = omega arith in
+    let past : drop (10256 + 2 * c) q ≡ drop (10256 + 2 * c) ps =
+    ap (λ (k : ℕ). drop k q) e ∙ (sym (drop-drop 10240 b q) ∙ (ap (drop 10240) back ∙ (frame .words-past ∙ (drop-drop 10240 b ps ∙ ap (λ (k : ℕ). drop k ps) (sym e))))) in
     let limits : limits-of q ≡ limits-of ps = cc in
     let size : length cs′ ≡ length cs = frame .cells-long in
     record {
@@ -105,11 +105,11 @@ rowed-too cs ps cs′ ps′ qs p rows w note =
     let xs : paper-of cs′ ps′ .cells ≡ p .cells = ap (λ (r : Paper). r .cells) paper in
     let c : ℕ = getD ps 1 0 in
     let b : ℕ = 16 + 2 * c in
-    let e : 6160 + 2 * c ≡ b + 6144 = omega arith in
+    let e : 10256 + 2 * c ≡ b + 10240 = omega arith in
     let tq : drop b qs ≡ tables qs = ap (λ (k : ℕ). drop (16 + 2 * k) qs) (sym (g1 ∙ h1)) in
     let tp : tables ps′ ≡ drop b ps′ = ap (λ (k : ℕ). drop (16 + 2 * k) ps′) h1 in
-    let past : drop (6160 + 2 * c) qs ≡ drop (6160 + 2 * c) ps =
-    ap (λ (k : ℕ). drop k qs) e ∙ (sym (drop-drop 6144 b qs) ∙ (ap (drop 6144) (tq ∙ (note .tables ∙ tp)) ∙ (drop-drop 6144 b ps′ ∙ (ap (λ (k : ℕ). drop k ps′) (sym e) ∙ w .pieces-beyond)))) in
+    let past : drop (10256 + 2 * c) qs ≡ drop (10256 + 2 * c) ps =
+    ap (λ (k : ℕ). drop k qs) e ∙ (sym (drop-drop 10240 b qs) ∙ (ap (drop 10240) (tq ∙ (note .tables ∙ tp)) ∙ (drop-drop 10240 b ps′ ∙ (ap (λ (k : ℕ). drop k ps′) (sym e) ∙ w .pieces-beyond)))) in
     record {
       held = record {
         few-cells = omega (arith, held .few-cells);

@@ -27,7 +27,7 @@ abbrev pub cells-words : ℕ → ℕ
 cells-words n = 4096 * slots-for n
 
 abbrev pub pieces-words : ℕ → ℕ
-pieces-words c = 6160 + 2 * c
+pieces-words c = 10256 + 2 * c
 
 abbrev pub undo-words : ℕ → ℕ
 undo-words u = 0
@@ -74,7 +74,7 @@ abbrev pub opened-cells : ℕ → List ℕ
 opened-cells n = replicate (cells-words n) 0
 
 abbrev pub opened-pieces : ℕ → ℕ → ℕ → List ℕ
-opened-pieces n c u = (n ∷ (c ∷ (u ∷ replicate (13 + 2 * c) 0))) ++ (counting 0 (slots-for n) ++ replicate (6144 - slots-for n) 0)
+opened-pieces n c u = (n ∷ (c ∷ (u ∷ replicate (13 + 2 * c) 0))) ++ (counting 0 (slots-for n) ++ replicate (10240 - slots-for n) 0)
 
 abbrev pub opened-undo : ℕ → List ℕ
 opened-undo u = replicate (undo-words u) 0

@@ -66,7 +66,7 @@ pub fn words_for(limits: Limits) -> Sizes
 {
     Sizes {
         cells: 4096 * (limits.cells as usize / 576 + 4),
-        pieces: 6160 + 2 * limits.changes as usize,
+        pieces: 10256 + 2 * limits.changes as usize,
         undo: 0,
     }
 }

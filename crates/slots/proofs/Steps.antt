@@ -1,13 +1,12 @@
 -- What the code writes, over plain lists.
-use mathlib.Core.Path.{_≡_, refl, sym, ap, _∙_}
+use mathlib.Core.Path.{_≡_, sym, ap, _∙_}
 use mathlib.Core.Logic.{_≢_}
 use mathlib.Core.List.{List, [], _∷_, _++_}
-use Prim.Native.Nat.{ℕ, zero, suc, _+_, _-_, _*_, _≤_, _<_}
-use native.Mathlib.Nat.{add-zero, zero-add, add-suc, suc-add}
-use native.Mathlib.Numerals.{add-one}
+use Prim.Native.Nat.{ℕ, suc, _+_, _-_, _*_, _≤_, _<_}
+use native.Mathlib.Nat.{add-zero}
 use native.Mathlib.Omega.{arith}
-use lib.ListN.{length, getD, take, drop, set}
-use Rattle.std.proofs.shelf.Lists.{getD-set-same, getD-set-other, length-set, take-more, take-all}
+use lib.ListN.{length, getD, take, set}
+use Rattle.std.proofs.shelf.Lists.{getD-set-same, getD-set-other, length-set, take-more}
 use Rattle.model.specs.Paper as paper
 use Rattle.model.specs.Paper.{new-cells}
 use Rattle.model.specs.Values.{cell-of}
@@ -65,16 +64,31 @@ copied c d from to n e h = (
     word : (i j : ℕ) → i < n → j < 4 → getD d (4 * (to + i) + j) 0 ≡ getD c (4 * (from + i) + j) 0
     word i j l m = h .0 (4 * (to + i) + j) 0 (omega arith) (omega arith) ∙ ap (λ w. getD c w 0) (sym (at i j))
 
+-- one more cell written
+added : (c d e : List ℕ) (a i : ℕ) (xs : List paper.Cell) (x : paper.Cell) → cellsAt d a i ≡ xs → Kept c d a i → cellAt e (a + i) ≡ x → Kept d e (a + i) 1
+    → (cellsAt e a (i + 1) ≡ xs ++ (x ∷ [])) × Kept c e a (i + 1)
+added c d e a i xs x f k w j =
+    let same = kept-cells-below d e (a + i) 1 j a i (omega arith) in
+    let one = cells-more e a i in (
+      cc,
+      kept-twice c d e a (i + 1) (kept-wider c d a i k a (i + 1) (omega arith) (omega arith)) (kept-wider d e (a + i) 1 j a (i + 1) (omega arith) (omega arith)),
+    )
+
 -- one more new cell
 pub filled : (c d e : List ℕ) (a i : ℕ) (ls : List ℕ) (s ch l : ℕ) → i < length ls → l ≡ getD ls i 0
     → cellsAt d a i ≡ new-cells (take i ls) s ch → Kept c d a i
     → cellAt e (a + i) ≡ record { letter = l; style = s; put-in = suc ch; struck = 0 } → Kept d e (a + i) 1
     → (cellsAt e a (i + 1) ≡ new-cells (take (i + 1) ls) s ch) × Kept c e a (i + 1)
 filled c d e a i ls s ch l h g f k w j =
-    let same = kept-cells-below d e (a + i) 1 j a i (omega arith) in
-    let one = cells-more e a i in
     let t = take-more ls i 0 h in
-    let m = new-cells-more (take i ls) l s ch in (
-      cc,
-      kept-twice c d e a (i + 1) (kept-wider c d a i k a (i + 1) (omega arith) (omega arith)) (kept-wider d e (a + i) 1 j a (i + 1) (omega arith) (omega arith)),
-    )
+    let m = new-cells-more (take i ls) l s ch in
+    let r = added c d e a i _ _ f k w j in
+    let x = r .0 in (cc, r .1)
+
+-- one more cell of other words
+pub pasted : (c d e new : List ℕ) (a from i : ℕ) → cellsAt d a i ≡ cellsAt new from i → Kept c d a i
+    → cellAt e (a + i) ≡ cellAt new (from + i) → Kept d e (a + i) 1 → (cellsAt e a (i + 1) ≡ cellsAt new from (i + 1)) × Kept c e a (i + 1)
+pasted c d e new a from i f k w j =
+    let m = cells-more new from i in
+    let r = added c d e a i _ _ f k w j in
+    let x = r .0 in (cc, r .1)

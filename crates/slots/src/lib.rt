@@ -1,6 +1,6 @@
-// Cells in lent words, four words a cell: read one, write one, copy a run of cells, fill a run with new letters.
+// Cells in lent words, four words a cell: read one, write one, copy a run of cells, paste one from other words, fill one with new letters.
 ghost use mathlib.Core.Path.{_≡_};
-ghost use Prim.Native.Nat.{ℕ, _+_, _*_, _<_, _≤_};
+ghost use Prim.Native.Nat.{_+_, _*_, _<_, _≤_};
 ghost use lib.ListN.{length};
 ghost use Rattle.model.specs.Paper.{new-cells};
 ghost use Rattle.model.specs.Values.{cell-of};
@@ -47,6 +47,19 @@ pub fn copy(c: &mut [u32], from: usize, to: usize, n: usize)
     let start = 4 * from;
     let end = 4 * (from + n);
     c.copy_within(start..end, 4 * to);
+}
+
+// Copies `n` cells of `new`, from its number `from` on, to number `a` on.
+pub fn paste(c: &mut [u32], a: usize, new: &[u32], from: usize, n: usize)
+    requires source { ⌜ 4 * (from + n) ≤ length (now new) ⌝ }
+    requires target { ⌜ 4 * (a + n) ≤ length (now c) ⌝ }
+    ensures pasted { λ _. ⌜ cellsAt (now (c .exit)) a n ≡ cellsAt (now (new .entry)) from n ⌝ }
+    ensures kept { λ _. ⌜ Kept (now (c .entry)) (now (c .exit)) a n ⌝ }
+{
+    for i in 0..n {
+        let cell = read(new, from + i);
+        write(c, a + i, cell);
+    }
 }
 
 // Writes the letters as new cells from number `a` on: in one style, put in by one change.

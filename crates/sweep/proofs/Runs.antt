@@ -89,11 +89,6 @@ run-step c p d q s at k o m left r a cs f l h w g e =
     let r2 : r ≡ length (swept a cs (take m (drop at t))) = cc in
     (omega arith, ap (λ x. swept-run a cs x (at + r) (left - m)) tx ∙ swept-run-step a cs t at m left r l (omega arith) r2)
 
--- the whole of piece k
-pub piece-swept : (c p d q : List ℕ) (s k n : ℕ) (a : Action) (cs : List Change) (xs : List Cell) → n ≡ used p k → Changed c p d q s k (swept-run a cs (piece c p k) 0 n)
-    → piece c p k ≡ xs → piece d q k ≡ swept a cs xs
-piece-swept c p d q s k n a cs xs e h f = h .here ∙ swept-run-all a cs (piece c p k) n (length-piece c p k ∙ sym e) ∙ ap (swept a cs) f
-
 -- every list swept
 pub strung-swept : (a : Action) (cs : List Change) (f g : ℕ → List Cell) (k n : ℕ) → ((i : ℕ) → i < n → g (k + i) ≡ swept a cs (f (k + i))) → strung g k n ≡ swept a cs (strung f k n)
 unfolding strung

@@ -10,6 +10,7 @@ use Rattle.std.specs.declared.option.Option.the-variants.{Some, None}
 use Rattle.model.specs.Paper.{pick, Cell, Change, author-of, strike, accept, reject, styled}
 use Rattle.model.specs.Values.{cell-of}
 use Rattle.model.specs.declared.Cell as code
+use Rattle.pieces.specs.Marks.{Has}
 use Rattle.pieces.specs.Edits.{replaced}
 use Rattle.sweep.specs.declared.Action.{Action}
 use Rattle.sweep.specs.declared.Action.the-variants.{Strike, Accept, Reject, Style}
@@ -47,6 +48,17 @@ Writable (Strike a c) = c < 4294967295
 Writable (Accept c) = Unit {0}
 Writable (Reject c) = Unit {0}
 Writable (Style s) = Unit {0}
+
+-- the mark that the action writes, or 0
+abbrev pub mark-of : Action → ℕ
+mark-of (Strike a c) = suc c
+mark-of (Accept c) = 0
+mark-of (Reject c) = 0
+mark-of (Style s) = 0
+
+-- the set of slot i has the mark that the action writes
+abbrev pub Noted : Action → List ℕ → ℕ → Type 0
+Noted a p i = 0 < mark-of a → Has p i (mark-of a)
 
 -- the cell that is left, if one is
 abbrev pub left-of : Option code.Cell → List Cell

@@ -1,16 +1,20 @@
 // Strike, accept, reject and style over the cells of a store, said once: each is a sweep, which goes over cells in order, drops some and changes others.
-ghost use Prim.Native.Nat.{suc, _+_, _-_, _*_, _<_, _≤_};
+ghost use Prim.Native.Nat.{ℕ, suc, _+_, _-_, _*_, _<_, _≤_};
 ghost use Rattle.changes.specs.Row.{changes-of};
-ghost use Rattle.model.specs.Paper.{author-of, pick, touched as touches};
+ghost use Rattle.model.specs.Paper.{Change, author-of, pick, touched as touches};
 ghost use Rattle.model.specs.Values.{cell-of};
-ghost use Rattle.pieces.specs.Edits.{Changed, Filled};
-ghost use Rattle.pieces.specs.Store.{cells-of, Edited, Order, Store, piece, used};
+ghost use Rattle.pieces.specs.Edits.{Changed, Filled, Resized};
+ghost use Rattle.pieces.specs.Marks.{Beside, Lacks};
+ghost use Rattle.pieces.specs.Store.{cells-of, Edited, Frame, Order, Store, piece, slot, used};
 ghost use Rattle.slots.specs.Cells.{Kept, cellAt, cellsAt};
-ghost use Rattle.sweep.specs.Sweep.{changed as afterwards, fate as fate-of, goes as is-gone, left-of, One-meaning, swept, swept-run, Writable};
+ghost use Rattle.sweep.specs.Sweep.{changed as afterwards, fate as fate-of, goes as is-gone, left-of, mark-of, Noted, One-meaning, swept, swept-run, Writable};
+ghost use Rattle.std.specs.shelf.Lists.{All};
+ghost use Rattle.tree.specs.Tree.{Sums};
 ghost use lib.Dec.{eqb};
 ghost use lib.ListN.{drop, length, take};
-ghost use mathlib.Core.List.{_++_};
-ghost use mathlib.Core.Bool.{_||_};
+ghost use mathlib.Core.List.{List, _++_};
+ghost use mathlib.Core.Bool.{false, _||_};
+ghost use mathlib.Core.Logic.{_≢_};
 ghost use mathlib.Core.Path.{_≡_};
 use model::Cell;
 
@@ -201,6 +205,38 @@ pub struct Places {
     pub slots: usize,
 }
 
+// The mark that the action writes into cells, or 0.
+fn new_mark(action: Action) -> u32
+    requires { ⌜ Writable action ⌝ }
+    ensures { λ r. ⌜ r ≡ mark-of action ⌝ }
+{
+    match action {
+        Action::Strike { change, .. } => change + 1,
+        Action::Accept { .. } => 0,
+        Action::Reject { .. } => 0,
+        Action::Style { .. } => 0,
+    }
+}
+
+// Piece `k` gets the length `n`, and its set of marks the one that the action writes.
+fn resize(p: &mut [u32], s: usize, k: usize, n: usize, action: Action)
+    requires order { ⌜ Order (now p) s ⌝ }
+    requires here { ⌜ k < s ⌝ }
+    requires small { ⌜ n ≤ 1024 ⌝ }
+    requires sums { ⌜ Sums (drop 2048 (now p)) ⌝ }
+    requires mark { ⌜ Writable action ⌝ }
+    ensures resized { λ _. ⌜ Resized (now (p .entry)) (now (p .exit)) k n ⌝ }
+    ensures sums { λ _. ⌜ Sums (drop 2048 (now (p .exit))) ⌝ }
+    ensures noted { λ _. ⌜ Noted action (now (p .exit)) (slot (now (p .exit)) k) ⌝ }
+{
+    pieces::resize(p, k, n);
+    let mark = new_mark(action);
+    if mark == 0 {
+        return;
+    }
+    pieces::add_mark(p, s, k, mark);
+}
+
 // Sweeps `n` cells of piece `k`, from its cell `o` on. Returns how many of them are left.
 fn sweep_piece(
     c: &mut [u32],
@@ -236,7 +272,7 @@ fn sweep_piece(
         at.row,
     );
     let has = pieces::used(&w[tables..], k) - n + left;
-    pieces::resize(&mut w[tables..], k, has);
+    resize(&mut w[tables..], at.slots, k, has, action);
     left
 }
 
@@ -262,6 +298,67 @@ pub fn sweep_run(c: &mut [u32], w: &mut [u32], at: Places, place: usize, n: usiz
     }
 }
 
+// Whether piece `k` may have a cell with the mark of the change. If not, it has none.
+fn may_have(p: &[u32], s: usize, k: usize, change: u32) -> bool
+    requires order { ⌜ Order (now p) s ⌝ }
+    requires here { ⌜ k < s ⌝ }
+    ensures { λ r. ⌜ (r ≡ false → (c : List ℕ) → Store c (now (p .entry)) s → All (Lacks (suc change)) (piece c (now (p .entry)) k)) ⌝ }
+{
+    if change == u32::MAX {
+        return true;
+    }
+    pieces::may_have(p, s, k, change + 1)
+}
+
+// Whether a sweep may change a cell of piece `k`. If not, it leaves the piece as it is.
+fn concerns(p: &[u32], s: usize, k: usize, action: Action) -> bool
+    requires order { ⌜ Order (now p) s ⌝ }
+    requires here { ⌜ k < s ⌝ }
+    ensures { λ r. ⌜ (r ≡ false → (c : List ℕ) → Store c (now (p .entry)) s → (cs : List Change) → swept action cs (piece c (now (p .entry)) k) ≡ piece c (now (p .entry)) k) ⌝ }
+{
+    match action {
+        Action::Strike { .. } => true,
+        Action::Accept { change } => may_have(p, s, k, change),
+        Action::Reject { change } => may_have(p, s, k, change),
+        Action::Style { .. } => true,
+    }
+}
+
+// Makes the set of marks of piece `k` anew: it then has no mark that none of its cells has.
+fn remark(c: &[u32], w: &mut [u32], at: Places, k: usize)
+    requires store { ⌜ Store (now c) (drop (at .tables) (now w)) (at .slots) ⌝ }
+    requires here { ⌜ k < at .slots ⌝ }
+    requires long { ⌜ at .tables ≤ length (now w) ⌝ }
+    ensures beside { λ _. ⌜ Beside (drop (at .tables) (now (w .entry))) (drop (at .tables) (now (w .exit))) ⌝ }
+    ensures store { λ _. ⌜ Store (now (c .entry)) (drop (at .tables) (now (w .exit))) (at .slots) ⌝ }
+    ensures head { λ _. ⌜ take (at .tables) (now (w .exit)) ≡ take (at .tables) (now (w .entry)) ⌝ }
+{
+    let tables = at.tables;
+    pieces::remark(c, &mut w[tables..], at.slots, k);
+}
+
+// Sweeps all cells of piece `k`.
+fn sweep_whole(c: &mut [u32], w: &mut [u32], at: Places, k: usize, action: Action)
+    requires store { ⌜ Store (now c) (drop (at .tables) (now w)) (at .slots) ⌝ }
+    requires here { ⌜ k < at .slots ⌝ }
+    requires row { ⌜ 16 + 2 * at .row ≤ at .tables ⌝ }
+    requires long { ⌜ at .tables ≤ length (now w) ⌝ }
+    requires mark { ⌜ Writable action ⌝ }
+    ensures frame { λ _. ⌜ Frame (now (c .entry)) (drop (at .tables) (now (w .entry))) (now (c .exit)) (drop (at .tables) (now (w .exit))) (at .slots) ⌝ }
+    ensures swept { λ _. ⌜ piece (now (c .exit)) (drop (at .tables) (now (w .exit))) k ≡ swept action (changes-of (drop 16 (now (w .entry))) (at .row)) (piece (now (c .entry)) (drop (at .tables) (now (w .entry))) k) ⌝ }
+    ensures others { λ _. ⌜ ((j : ℕ) → j < at .slots → j ≢ k → piece (now (c .exit)) (drop (at .tables) (now (w .exit))) j ≡ piece (now (c .entry)) (drop (at .tables) (now (w .entry))) j) ⌝ }
+    ensures store { λ _. ⌜ Store (now (c .exit)) (drop (at .tables) (now (w .exit))) (at .slots) ⌝ }
+    ensures head { λ _. ⌜ take (at .tables) (now (w .exit)) ≡ take (at .tables) (now (w .entry)) ⌝ }
+{
+    let tables = at.tables;
+    if !concerns(&w[tables..], at.slots, k, action) {
+        return;
+    }
+    let has = pieces::used(&w[tables..], k);
+    sweep_piece(c, w, at, k, 0, has, action);
+    remark(c, w, at, k);
+}
+
 // Sweeps all cells of the text.
 pub fn sweep_all(c: &mut [u32], w: &mut [u32], at: Places, action: Action)
     requires store { ⌜ Store (now c) (drop (at .tables) (now w)) (at .slots) ⌝ }
@@ -271,10 +368,8 @@ pub fn sweep_all(c: &mut [u32], w: &mut [u32], at: Places, action: Action)
     ensures edited { λ _. ⌜ Edited (now (c .entry)) (drop (at .tables) (now (w .entry))) (now (c .exit)) (drop (at .tables) (now (w .exit))) (at .slots) (swept action (changes-of (drop 16 (now (w .entry))) (at .row)) (cells-of (now (c .entry)) (drop (at .tables) (now (w .entry))) (at .slots))) ⌝ }
     ensures head { λ _. ⌜ take (at .tables) (now (w .exit)) ≡ take (at .tables) (now (w .entry)) ⌝ }
 {
-    let tables = at.tables;
     for k in 0..at.slots {
-        let has = pieces::used(&w[tables..], k);
-        sweep_piece(c, w, at, k, 0, has, action);
+        sweep_whole(c, w, at, k, action);
     }
 }
 
@@ -300,6 +395,19 @@ fn touched_cells(c: &[u32], at: usize, n: usize, change: u32) -> usize
     count
 }
 
+// How many cells of piece `k` have the mark of the change.
+fn touched_piece(c: &[u32], p: &[u32], s: usize, k: usize, change: u32) -> usize
+    requires store { ⌜ Store (now c) (now p) s ⌝ }
+    requires here { ⌜ k < s ⌝ }
+    ensures count { λ r. ⌜ r ≡ touches (piece (now (c .entry)) (now (p .entry)) k) change ⌝ }
+    ensures few { λ r. ⌜ r ≤ 1024 ⌝ }
+{
+    if !may_have(p, s, k, change) {
+        return 0;
+    }
+    touched_cells(c, pieces::number_of(p, s, k, 0), pieces::used(p, k), change)
+}
+
 // How many cells have the mark of the change.
 pub fn touched(c: &[u32], p: &[u32], s: usize, change: u32) -> u32
     requires { ⌜ Store (now c) (now p) s ⌝ }
@@ -307,7 +415,7 @@ pub fn touched(c: &[u32], p: &[u32], s: usize, change: u32) -> u32
 {
     let mut count = 0;
     for k in 0..s {
-        count += touched_cells(c, pieces::number_of(p, s, k, 0), pieces::used(p, k), change);
+        count += touched_piece(c, p, s, k, change);
     }
     count as u32
 }

@@ -29,7 +29,7 @@ const MOST_UNDOS: u32 = 2048;
 // How many words and bytes it lends: what the session asks for under those limits, and the longest answer.
 const CELLS_WORDS: usize = 28672;
 
-const PIECES_WORDS: usize = 6416;
+const PIECES_WORDS: usize = 10512;
 
 const UNDO_WORDS: usize = 1;
 

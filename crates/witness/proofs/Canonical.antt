@@ -15,7 +15,7 @@ use Rattle.pieces.specs.Store.{Store, cells-of}
 use Rattle.session.specs.Memory.{slots-for, cells-words, pieces-words, undo-words, tables, paper-of, Sound, opened-cells, opened-pieces}
 use Rattle.session.specs.Contract.{Fit}
 use Rattle.session.specs.Keeping.{Holds}
-use Rattle.witness.proofs.Counts.{tables-for, length-tables, table-for, tables-fit, tables-none}
+use Rattle.witness.proofs.Counts.{tables-for, length-tables, table-for, marked-for, tables-fit, tables-none}
 use Rattle.witness.proofs.Small.{Small, Of-paper, small-append, small-zeros, cells-small, changes-small}
 use Rattle.witness.proofs.Written.{length-cells-written, length-changes-written, changes-back, text-back}
 
@@ -97,7 +97,8 @@ module _ (l : Limits) (p : Paper) (within : Within l p) where
       let long-cells = length-cells-for in
       let long-pieces = length-pieces-for in
       let table = table-for (length (p .cells)) (slots-for (l .cells)) (omega arith) (omega arith) (omega arith) in
-      let store : Store (cells-for l p) (tables (pieces-for l p)) (slots-for (l .cells)) = record { room = omega arith; table = rw tables-are table } in
+      let marked = marked-for (length (p .cells)) (slots-for (l .cells)) (omega arith) (cells-for l p) in
+      let store : Store (cells-for l p) (tables (pieces-for l p)) (slots-for (l .cells)) = record { room = omega arith; table = rw tables-are table; marked = rw tables-are marked } in
       let cells-fit : length (paper-of (cells-for l p) (pieces-for l p) .cells) ≤ l .cells = rw cells-are (within .cells) in
       search needs
 

@@ -2,7 +2,7 @@
 use mathlib.Core.Path.{_≡_, refl, sym, ap, _∙_}
 use mathlib.Core.Logic.{inl, inr}
 use mathlib.Core.List.{List, _++_}
-use Prim.Native.Nat.{ℕ, zero, suc, _+_, _-_, _*_, _^_, _≤_, _<_, min}
+use Prim.Native.Nat.{ℕ, zero, suc, _+_, _-_, _*_, _/_, _%_, _^_, _≤_, _<_, min}
 use native.Mathlib.Omega.{arith}
 use lib.Dec.{ltb, leb}
 use lib.ListN.{length, getD, drop, replicate}
@@ -10,11 +10,15 @@ use lib.Pow.{pow-pos}
 use Rattle.std.specs.Iters.{counting}
 use Rattle.std.proofs.shelf.Counted.{length-counting, getD-counting}
 use Rattle.std.proofs.shelf.Lists.{getD-drop, length-drop, length-append, length-replicate, getD-append-left, getD-append-right, getD-replicate, getD-past, ext-getD}
+use Rattle.std.proofs.shelf.Bits.{shr-shr}
+use Rattle.std.proofs.shelf.Elements.{all-from-getD}
 use Rattle.std.proofs.shelf.Tests.{cases-lt, lt-ltb, le-ltb, le-leb, lt-leb}
 use Rattle.model.specs.Paper.{pick}
 use Rattle.tree.specs.Tree.{leftmost}
 use Rattle.tree.proofs.Node.{double, leftmost-next}
-use Rattle.pieces.specs.Store.{used, Table}
+use Rattle.slots.specs.Cells.{cellsAt}
+use Rattle.pieces.specs.Marks.{Bit, Has, Marks}
+use Rattle.pieces.specs.Store.{slot, used, piece, no-cell, Marked, Table}
 use Rattle.witness.proofs.Built.{built, length-built, getD-built}
 
 -- how many of m cells piece k has
@@ -76,29 +80,54 @@ leaves i h = omega arith
 count-sum : (m i : ℕ) → 0 < i → i < 2048 → count m 11 i ≡ count m 11 (2 * i) + count m 11 (2 * i + 1)
 count-sum m i low high = sym (count-deeper m 11 i (leaves i low)) ∙ count-node m 11 i high
 
--- word k of the tables of s pieces: the order, nothing, and the tree of counts from word 2048 on
+-- a word of a set of marks: all of them, if there are cells
+abbrev set-of : ℕ → ℕ
+set-of m = pick (ltb 0 m) 4294967295 0
+
+-- word k of the tables of s pieces: the order, nothing, the tree of counts from word 2048 on, and the sets of marks from word 6144 on
 table-word : ℕ → ℕ → ℕ → ℕ
-table-word m s k = pick (ltb k s) k (pick (ltb k 2048) 0 (count m 11 (k - 2048)))
+table-word m s k = pick (ltb k s) k (pick (ltb k 2048) 0 (pick (ltb k 6144) (count m 11 (k - 2048)) (set-of m)))
+
+-- every bit of all ones is set
+ones-bit : (n j : ℕ) → j < n → Bit (2 ^ n - 1) j
+ones-bit zero j l = absurd (omega arith)
+ones-bit (suc n) zero l = omega (arith, double n, pow-pos n)
+ones-bit (suc n) (suc j) l =
+    let e : (2 ^ suc n - 1) / 2 ≡ 2 ^ n - 1 = omega (arith, double n, pow-pos n) in
+    let f : 1 + j ≡ suc j = omega arith in
+    let h : (2 ^ suc n - 1) / 2 / 2 ^ j ≡ (2 ^ suc n - 1) / 2 ^ suc j = shr-shr (2 ^ suc n - 1) 1 j ∙ ap (λ (i : ℕ). (2 ^ suc n - 1) / 2 ^ i) f in
+    rw (← h, e) (ones-bit n j (omega arith))
 
 pub tables-for : ℕ → ℕ → List ℕ
-tables-for m s = built (table-word m s) 6144
+tables-for m s = built (table-word m s) 10240
 
-pub length-tables : (m s : ℕ) → length (tables-for m s) ≡ 6144
+pub length-tables : (m s : ℕ) → length (tables-for m s) ≡ 10240
 unfolding tables-for
-length-tables m s = length-built (table-word m s) 6144
+length-tables m s = length-built (table-word m s) 10240
 
 module _ (m s : ℕ) (most : s ≤ 2048) where
   pub order-word : (k : ℕ) → k < s → getD (tables-for m s) k 0 ≡ k
   unfolding tables-for table-word
-  order-word k h = getD-built (table-word m s) 6144 k (omega arith) ∙ rw (lt-ltb k s h) refl
+  order-word k h = getD-built (table-word m s) 10240 k (omega arith) ∙ rw (lt-ltb k s h) refl
 
   spare-word : (k : ℕ) → s ≤ k → k < 2048 → getD (tables-for m s) k 0 ≡ 0
   unfolding tables-for table-word
-  spare-word k h i = getD-built (table-word m s) 6144 k (omega arith) ∙ rw (le-ltb k s h, lt-ltb k 2048 i) refl
+  spare-word k h i = getD-built (table-word m s) 10240 k (omega arith) ∙ rw (le-ltb k s h, lt-ltb k 2048 i) refl
 
   tree-word : (k : ℕ) → 2048 ≤ k → k < 6144 → getD (tables-for m s) k 0 ≡ count m 11 (k - 2048)
   unfolding tables-for table-word
-  tree-word k h i = getD-built (table-word m s) 6144 k i ∙ rw (le-ltb k s (omega arith), le-ltb k 2048 h) refl
+  tree-word k h i = getD-built (table-word m s) 10240 k (omega arith) ∙ rw (le-ltb k s (omega arith), le-ltb k 2048 h, lt-ltb k 6144 i) refl
+
+  set-word : (k : ℕ) → 6144 ≤ k → k < 10240 → getD (tables-for m s) k 0 ≡ set-of m
+  unfolding tables-for table-word
+  set-word k h i = getD-built (table-word m s) 10240 k i ∙ rw (le-ltb k s (omega arith), le-ltb k 2048 (omega arith), le-ltb k 6144 h) refl
+
+  all-marks : 0 < m → (i n : ℕ) → i < 2048 → Has (tables-for m s) i n
+  all-marks some i n h =
+      record {
+        low = rw (set-word (6144 + i) (omega arith) (omega arith), lt-ltb 0 m some) (ones-bit 32 (n % 32) (omega arith));
+        high = rw (set-word (8192 + i) (omega arith) (omega arith), lt-ltb 0 m some) (ones-bit 32 (n / 32 % 32) (omega arith));
+      }
 
   node-word : (i : ℕ) → i < 4096 → getD (drop 2048 (tables-for m s)) i 0 ≡ count m 11 i
   node-word i h =
@@ -130,6 +159,16 @@ module _ (m s : ℕ) (most : s ≤ 2048) where
     };
   }
 
+  pub marked-for : (c : List ℕ) → Marked c (tables-for m s) s
+  unfolding piece cellsAt
+  marked-for c k h =
+      let t = tables-for m s in
+      elim (cases-lt 0 m) [
+        | inl some ↦ all-from-getD (Marks t (slot t k)) (piece c t k) no-cell
+            (λ i l. let e = order-word k h in record { put-in = λ x. all-marks some (slot t k) _ (omega arith); struck = λ x. all-marks some (slot t k) _ (omega arith) })
+        | inr none ↦ let e : used t k ≡ 0 = used-word k (omega arith) ∙ (let f : share m k ≡ 0 = omega arith in f) in rw e tt
+      ]
+
   -- every word fits four bytes
   pub tables-fit : (i : ℕ) → getD (tables-for m s) i 0 < 4294967296
   tables-fit i =
@@ -140,34 +179,40 @@ module _ (m s : ℕ) (most : s ≤ 2048) where
           | inl b ↦ rw (spare-word i a b) (omega arith)
           | inr b ↦ elim (cases-lt i 6144) [
             | inl d ↦ rw (tree-word i b d) (omega (arith, count-small m 11 (i - 2048)))
-            | inr d ↦ rw (getD-past (tables-for m s) i 0 (omega arith)) (omega arith)
+            | inr d ↦ elim (cases-lt i 10240) [
+              | inl e ↦ rw (set-word i d e) (elim (cases-lt 0 m) [ inl f ↦ rw (lt-ltb 0 m f) (omega arith) | inr f ↦ rw (le-ltb 0 m f) (omega arith) ])
+              | inr e ↦ rw (getD-past (tables-for m s) i 0 (omega arith)) (omega arith)
+            ]
           ]
         ]
       ]
 
 -- with no cells: the order, and nothing
-pub tables-none : (s : ℕ) → s ≤ 2048 → tables-for 0 s ≡ counting 0 s ++ replicate (6144 - s) 0
+pub tables-none : (s : ℕ) → s ≤ 2048 → tables-for 0 s ≡ counting 0 s ++ replicate (10240 - s) 0
 tables-none s most =
     let long = length-tables 0 s in
     let front = length-counting 0 s in
-    let rest = length-replicate {A = ℕ} (6144 - s) 0 in
-    let both = length-append (counting 0 s) (replicate (6144 - s) 0) in
-    ext-getD 0 (tables-for 0 s) (counting 0 s ++ replicate (6144 - s) 0) (omega arith) λ i h. at i (omega arith)
+    let rest = length-replicate {A = ℕ} (10240 - s) 0 in
+    let both = length-append (counting 0 s) (replicate (10240 - s) 0) in
+    ext-getD 0 (tables-for 0 s) (counting 0 s ++ replicate (10240 - s) 0) (omega arith) λ i h. at i (omega arith)
   where
-    zeros : (i : ℕ) → s ≤ i → i < 6144 → getD (counting 0 s ++ replicate (6144 - s) 0) i 0 ≡ 0
-    zeros i a h = getD-append-right (counting 0 s) (replicate (6144 - s) 0) s i 0 (length-counting 0 s) a ∙ getD-replicate (6144 - s) (i - s) 0 0 (omega arith)
+    zeros : (i : ℕ) → s ≤ i → i < 10240 → getD (counting 0 s ++ replicate (10240 - s) 0) i 0 ≡ 0
+    zeros i a h = getD-append-right (counting 0 s) (replicate (10240 - s) 0) s i 0 (length-counting 0 s) a ∙ getD-replicate (10240 - s) (i - s) 0 0 (omega arith)
 
-    at : (i : ℕ) → i < 6144 → getD (tables-for 0 s) i 0 ≡ getD (counting 0 s ++ replicate (6144 - s) 0) i 0
+    at : (i : ℕ) → i < 10240 → getD (tables-for 0 s) i 0 ≡ getD (counting 0 s ++ replicate (10240 - s) 0) i 0
     at i h =
         elim (cases-lt i s) [
           | inl a ↦
               let front = length-counting 0 s in
               let e : getD (counting 0 s) i 0 ≡ 0 + i = getD-counting 0 s i 0 a in
-              let f : getD (counting 0 s ++ replicate (6144 - s) 0) i 0 ≡ getD (counting 0 s) i 0 = getD-append-left (counting 0 s) (replicate (6144 - s) 0) 0 i (omega arith) in
+              let f : getD (counting 0 s ++ replicate (10240 - s) 0) i 0 ≡ getD (counting 0 s) i 0 = getD-append-left (counting 0 s) (replicate (10240 - s) 0) 0 i (omega arith) in
               let g = order-word 0 s most i a in
               omega arith
           | inr a ↦ elim (cases-lt i 2048) [
             | inl b ↦ spare-word 0 s most i a b ∙ sym (zeros i a h)
-            | inr b ↦ tree-word 0 s most i b h ∙ count-none 11 (i - 2048) ∙ sym (zeros i a h)
+            | inr b ↦ elim (cases-lt i 6144) [
+              | inl d ↦ tree-word 0 s most i b d ∙ count-none 11 (i - 2048) ∙ sym (zeros i a h)
+              | inr d ↦ set-word 0 s most i d h ∙ sym (zeros i a h)
+            ]
           ]
         ]

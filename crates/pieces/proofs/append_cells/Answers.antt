@@ -1,4 +1,4 @@
-use mathlib.Core.Path.{_≡_, ap, _∙_}
+use mathlib.Core.Path.{ap, _∙_}
 use Rattle.pieces.specs.Store.{number}
 use Rattle.pieces.proofs.Cells.{appended}
 use Rattle.pieces.proofs.append_cells.Needs as need

@@ -1,4 +1,4 @@
-use mathlib.Core.Path.{_≡_, sym, ap, _∙_}
+use mathlib.Core.Path.{sym, ap, _∙_}
 use Rattle.slots.specs.Cells.{cellAt}
 use Rattle.pieces.proofs.Texts.{text-at}
 use Rattle.pieces.proofs.cell.Needs as need

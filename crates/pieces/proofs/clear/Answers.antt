@@ -1,8 +1,7 @@
 use mathlib.Core.Path.{_≡_}
 use native.Mathlib.Omega.{arith}
-use lib.ListN.{length}
 use Rattle.pieces.specs.Store.{cleared-words}
-use Rattle.pieces.proofs.Cleared.{cleared-is, cleared-table, cleared-text}
+use Rattle.pieces.proofs.Cleared.{cleared-is, cleared-table, cleared-text, cleared-marked}
 use Rattle.pieces.proofs.clear.Needs as need
 
 pub returns : need.returns
@@ -13,6 +12,10 @@ returns c =
     record {
       cells = c .zero .ensures;
       words = e;
-      store = record { room = omega (arith, c .zero .kept .w); table = rw e (cleared-table p s (c .pre .most) (c .pre .words) (c .pre .some)) };
+      store = record {
+        room = omega (arith, c .zero .kept .w);
+        table = rw e (cleared-table p s (c .pre .most) (c .pre .words) (c .pre .some));
+        marked = rw e (cleared-marked p s (c .pre .most) (c .pre .words) (c .zero .last .w));
+      };
       empty = rw e (cleared-text p s (c .pre .most) (c .pre .words) (c .zero .last .w));
     }

@@ -1,6 +1,6 @@
 use mathlib.Core.Path.{_≡_}
 use mathlib.Core.List.{_++_}
-use lib.ListN.{drop, replicate}
+use lib.ListN.{drop}
 use Rattle.std.specs.Iters.{counting}
 use Rattle.pieces.proofs.enumerate.Given as given
 

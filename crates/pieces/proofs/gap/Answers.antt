@@ -1,4 +1,4 @@
-use mathlib.Core.Path.{sym, refl, _∙_}
+use mathlib.Core.Path.{sym}
 use native.Mathlib.Omega.{arith}
 use Rattle.pieces.specs.Store.{before}
 use Rattle.pieces.proofs.gap.Needs as need

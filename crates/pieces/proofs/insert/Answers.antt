@@ -1,72 +1,52 @@
-use mathlib.Core.Path.{_≡_, refl, sym, _∙_}
-use mathlib.Core.List.{List, _++_}
-use Prim.Native.Nat.{ℕ, _+_, _-_, _<_, _≤_}
+use mathlib.Core.Path.{ap, _∙_}
+use Prim.Native.Nat.{_+_}
 use native.Mathlib.Omega.{arith}
-use lib.ListN.{length, take, drop}
-use Rattle.std.proofs.shelf.Lists.{length-take, length-drop}
-use Rattle.model.specs.Paper.{new-cells}
-use Rattle.pieces.specs.Store.{used, before, cells-of, Store}
+use Rattle.slots.specs.Cells.{cellsAt}
+use Rattle.pieces.specs.Store.{before, cells-of}
 use Rattle.pieces.specs.Edits.{replaced}
-use Rattle.pieces.proofs.Cuts.{used-from}
-use Rattle.pieces.proofs.Edit.{edited, edited-as, inserted-twice, store-after, not-last, halves}
+use Rattle.pieces.proofs.Texts.{length-text}
+use Rattle.pieces.proofs.Packs.{same-before}
+use Rattle.pieces.proofs.Edit.{edited-as, edited-both, store-after, put-text}
 use Rattle.pieces.proofs.insert.Needs as need
 
-pub returns-then-used-n-le-CELLS : need.returns-then-used-n-le-CELLS
-returns-then-used-n-le-CELLS c =
-    edited (c .args .c .now) (c .args .p .now) (c .insert-here .last .c) (c .insert-here .last .p) (c .args .s) (c .args .spot .piece) (c .args .spot .offset) 0
-    (new-cells (c .args .letters .now) (c .args .style) (c .args .change)) (c .pre .store) (c .pre .here) (omega arith) (c .insert-here .ensures .changed) (c .insert-here .ensures .sums)
+pub gap-spot-requires : need.gap-spot-requires
+gap-spot-requires c κs =
+    let e = length-text (c .args .c .now) (c .args .p .now) (c .args .s) in
+    record { table = c .pre .store .table; place = omega (arith, c .pre .place) }
 
-pub split-requires : need.split-requires
-split-requires c κs =
-    let e = c .pre .spare (omega arith) in
-    record { store = c .pre .store; here = not-last (c .args .p .now) (c .args .s) (c .args .spot .piece) (c .pre .here) e (omega arith); within = c .pre .within; spare = e }
+pub gap-spot-requires-2 : need.gap-spot-requires-2
+gap-spot-requires-2 c κs =
+    let e = length-text (c .args .c .now) (c .args .p .now) (c .args .s) in
+    let h = c .repack .ensures .same in
+    let b = same-before (c .args .c .now) (c .args .p .now) (c .repack .last .c) (c .repack .last .p) (c .args .s) h in
+    record { table = record { order = h .order; sums = c .repack .ensures .sums }; place = omega (arith, c .pre .place) }
 
-pub insert-here-requires-2 : need.insert-here-requires-2
-insert-here-requires-2 c κs =
-    let h = c .split .ensures .cut in
-    let small = c .pre .store .table .order .small (c .args .spot .piece) (c .pre .here) in
-    let o = h .here in
-    let w = c .pre .within in
+pub insert-at-requires-2 : need.insert-at-requires-2
+insert-at-requires-2 c κs =
+    let e = length-text (c .args .c .now) (c .args .p .now) (c .args .s) in
+    let h = c .repack .ensures .same in
+    let small = c .pre .store .table .order .small (c .gap-spot .result .piece) (c .gap-spot .ensures .here) in
+    let f = c .pre .fits in
     record {
-      store = store-after (c .args .c .now) (c .args .p .now) (c .split .last .c) (c .split .last .p) (c .args .s) (c .pre .store) (h .same .frame) (h .same .order) (c .split .ensures .sums);
-      here = c .pre .here;
-      within = omega arith;
-      fits = simp length-take (omega arith);
-      mark = c .pre .mark;
+      store = store-after (c .args .c .now) (c .args .p .now) (c .repack .last .c) (c .repack .last .p) (c .args .s) (c .pre .store) (h .frame) (h .order) (c .repack .ensures .sums) (h .marked (c .pre .store .marked));
+      here = c .gap-spot-2 .ensures .here;
+      within = c .gap-spot-2 .ensures .within;
+      source = c .pre .source;
+      few = c .pre .few;
+      spare = λ l. c .repack .ensures .spare (omega arith);
     }
 
-pub insert-here-requires-3 : need.insert-here-requires-3
-insert-here-requires-3 c κs =
-    let k = c .args .spot .piece in
-    let s = c .args .s in
-    let h = c .split .ensures .cut in
-    let g = c .insert-here-2 .ensures .changed in
-    let small = c .pre .store .table .order .small k (c .pre .here) in
-    let o = h .here in
-    let w = c .pre .within in
-    let l : k + 1 < s = not-last (c .args .p .now) s k (c .pre .here) (c .pre .spare (omega arith)) (omega arith) in
-    let st = store-after (c .args .c .now) (c .args .p .now) (c .split .last .c) (c .split .last .p) s (c .pre .store) (h .same .frame) (h .same .order) (c .split .ensures .sums) in
-    let u = used-from (c .split .last .c) (c .split .last .p) (c .insert-here-2 .last .c) (c .insert-here-2 .last .p) (k + 1) (k + 1) (g .others (k + 1) l (omega arith)) in
-    let v = h .next in
-    record {
-      store = store-after (c .split .last .c) (c .split .last .p) (c .insert-here-2 .last .c) (c .insert-here-2 .last .p) s st (g .frame) (g .order) (c .insert-here-2 .ensures .sums);
-      here = l;
-      within = omega arith;
-      fits = simp (length-take, length-drop) (omega arith);
-      mark = c .pre .mark;
-    }
+pub returns-then-has-le-CELLS : need.returns-then-has-le-CELLS
+returns-then-has-le-CELLS c =
+    edited-as (c .args .c .now) (c .args .p .now) (c .insert-at .last .c) (c .insert-at .last .p) (c .args .s) _ _ (c .insert-at .ensures)
+    (put-text (cells-of (c .args .c .now) (c .args .p .now) (c .args .s)) (cellsAt (c .args .new .now) (c .args .from) (c .args .n))
+    (before (c .args .p .now) (c .gap-spot .result .piece) + c .gap-spot .result .offset) (c .args .place) (c .gap-spot .ensures .sum))
 
 pub returns : need.returns
 returns c =
-    let k = c .args .spot .piece in
-    let s = c .args .s in
-    let o = c .args .spot .offset in
-    let ls = c .args .letters .now in
-    let m = c .min-first .result in
-    let a = new-cells (take (m - 0) ls) (c .args .style) (c .args .change) in
-    let b = new-cells (take (length ls - m) (drop m ls)) (c .args .style) (c .args .change) in
-    let l : k + 1 < s = not-last (c .args .p .now) s k (c .pre .here) (c .pre .spare (omega arith)) (omega arith) in
-    rw (halves ls m (c .args .style) (c .args .change)) at
-    (inserted-twice (c .args .c .now) (c .args .p .now) (c .split .last .c) (c .split .last .p) (c .insert-here-2 .last .c) (c .insert-here-2 .last .p)
-    (c .insert-here-3 .last .c) (c .insert-here-3 .last .p) s k o a b (c .pre .store) l (c .pre .within) (c .split .ensures .cut)
-    (c .insert-here-2 .ensures .changed) (c .insert-here-3 .ensures .changed) (c .insert-here-3 .ensures .sums))
+    let h = c .repack .ensures .same in
+    let t = cells-of (c .args .c .now) (c .args .p .now) (c .args .s) in
+    let new = cellsAt (c .args .new .now) (c .args .from) (c .args .n) in
+    let i = before (c .repack .last .p) (c .gap-spot-2 .result .piece) + c .gap-spot-2 .result .offset in
+    edited-both (c .args .c .now) (c .args .p .now) (c .repack .last .c) (c .repack .last .p) (c .insert-at-2 .last .c) (c .insert-at-2 .last .p) (c .args .s) _ _ (h .frame)
+    (c .insert-at-2 .ensures) (ap (λ x. replaced x i 0 new) (h .text) ∙ put-text t new i (c .args .place) (c .gap-spot-2 .ensures .sum))

@@ -1,4 +1,4 @@
-use Prim.Native.Nat.{_≤_, _<_}
+use Prim.Native.Nat.{_≤_}
 use native.Mathlib.Omega.{arith}
 use Rattle.pieces.specs.Store.{used}
 use Rattle.pieces.proofs.Packs.{same-none, packed-next, poured-text, poured-packed, poured-less}

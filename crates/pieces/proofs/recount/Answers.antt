@@ -1,6 +1,5 @@
 use mathlib.Core.Path.{_∙_}
 use native.Mathlib.Omega.{arith}
-use lib.ListN.{drop}
 use Rattle.std.proofs.shelf.Lists.{take-rest, length-drop}
 use Rattle.pieces.proofs.Counts.{leaf-used, light}
 use Rattle.pieces.proofs.Leaves.{part-back, part-resized}
@@ -15,7 +14,7 @@ returns c =
     let ys = c .rebuild .last .t in
     let leaves = rw take-rest at (c .rebuild .ensures .leaves) in
     record {
-      same = part-resized p ys (c .pre .words) (c .rebuild .kept .t) 0 _ (leaves 0 (omega arith) ∙ leaf-used p 0) (λ j l ne. leaves j l ∙ leaf-used p j)
+      same = part-resized p ys (omega (arith, c .pre .words)) (c .rebuild .kept .t) 0 _ (leaves 0 (omega arith) ∙ leaf-used p 0) (λ j l ne. leaves j l ∙ leaf-used p j)
           (c .rebuild .ensures .rest);
-      sums = rw (part-back p ys (c .pre .words) (c .rebuild .kept .t)) (c .rebuild .ensures .sums);
+      sums = rw (part-back p ys (omega (arith, c .pre .words)) (c .rebuild .kept .t)) (c .rebuild .ensures .sums);
     }

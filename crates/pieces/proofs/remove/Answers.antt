@@ -1,9 +1,9 @@
 use mathlib.Core.Path.{_≡_, ap, _∙_}
 use mathlib.Core.List.{[]}
-use Prim.Native.Nat.{_+_, _-_, _≤_}
+use Prim.Native.Nat.{_+_, _-_}
 use native.Mathlib.Omega.{arith}
 use lib.ListN.{length}
-use Rattle.pieces.specs.Store.{cells-of, before}
+use Rattle.pieces.specs.Store.{cells-of}
 use Rattle.pieces.specs.Edits.{replaced}
 use Rattle.pieces.proofs.Texts.{length-text}
 use Rattle.pieces.proofs.Change.{length-replaced}

@@ -15,7 +15,7 @@ returns c =
     record {
       edited = rw (c .locate-spot .ensures .sum) at
           (edited (c .args .c .now) (c .args .p .now) (c .remove-here .last .c) (c .remove-here .last .p) (c .args .s) (c .locate-spot .result .piece) (c .locate-spot .result .offset)
-          (c .min-m .result) [] (c .pre .store) (c .locate-spot .ensures .here) m (c .remove-here .ensures .changed) (c .remove-here .ensures .sums));
+          (c .min-m .result) [] (c .pre .store) (c .locate-spot .ensures .here) m (c .remove-here .ensures .changed) (c .remove-here .ensures .sums) tt);
       some = omega arith;
       most = omega arith;
     }

@@ -1,5 +1,3 @@
-use mathlib.Core.Path.{_≡_}
-use Prim.Native.Nat.{_+_, _≤_}
 use native.Mathlib.Omega.{arith}
 use Rattle.pieces.specs.Store.{used}
 use Rattle.pieces.proofs.Cuts.{rotated-order, rotated-next, rotated-here, cut}

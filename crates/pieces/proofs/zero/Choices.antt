@@ -1,7 +1,6 @@
 use mathlib.Core.Path.{_≡_}
 use mathlib.Core.List.{_++_}
 use lib.ListN.{drop, replicate}
-use Rattle.std.specs.Iters.{counting}
 use Rattle.pieces.proofs.zero.Given as given
 
 abbrev pub Inv-loop-i : given.InvT-loop-i

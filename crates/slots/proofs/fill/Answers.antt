@@ -1,10 +1,10 @@
 use mathlib.Core.Path.{_≡_, refl, ap, _∙_}
 use native.Mathlib.Numerals.{add-one}
 use native.Mathlib.Omega.{arith}
-use lib.ListN.{length, take}
+use lib.ListN.{length}
 use Rattle.std.proofs.shelf.Lists.{take-all}
 use Rattle.model.specs.Paper.{new-cells}
-use Rattle.slots.specs.Cells.{cellAt, cellsAt}
+use Rattle.slots.specs.Cells.{cellsAt}
 use Rattle.slots.proofs.Words.{kept-none}
 use Rattle.slots.proofs.Steps.{filled}
 use Rattle.slots.proofs.fill.Needs as need

@@ -1,6 +1,5 @@
 use mathlib.Core.Path.{_≡_}
-use Prim.Native.Nat.{_+_, _*_, _≤_, suc}
-use lib.ListN.{length, take}
+use lib.ListN.{take}
 use Rattle.model.specs.Paper.{new-cells}
 use Rattle.slots.specs.Cells.{cellsAt, Kept}
 use Rattle.slots.proofs.fill.Given as given

@@ -1,31 +1,24 @@
-use mathlib.Core.Path.{_≡_, refl, _∙_}
+use mathlib.Core.Path.{_≡_, refl, ap, _∙_}
 use Prim.Native.Nat.{_≤_, _<_}
 use native.Mathlib.Nat.{zero-add}
 use native.Mathlib.Omega.{arith}
 use borrow.Author.Count.{below-more}
 use lib.ListN.{drop}
-use Rattle.std.proofs.shelf.Lists.{take-rest}
 use Rattle.changes.specs.Row.{changes-of}
-use Rattle.pieces.specs.Store.{piece, used}
+use Rattle.pieces.specs.Store.{piece}
 use Rattle.pieces.proofs.Change.{frame-none, frame-both}
 use Rattle.sweep.specs.Sweep.{swept}
 use Rattle.sweep.proofs.Ahead.{row-kept}
-use Rattle.sweep.proofs.Runs.{piece-swept, strung-swept}
+use Rattle.sweep.proofs.Runs.{strung-swept}
 use Rattle.sweep.proofs.sweep_all.Needs as need
 
 pub loop-k-holds : need.loop-k-holds
 loop-k-holds c = (c .pre .store, frame-none (c .args .c .now) (drop (c .args .at .tables) (c .args .w .now)) (c .args .at .slots), (λ j l. absurd (omega arith)), (λ j l m. refl), refl, refl)
 
-pub used-has-requires : need.used-has-requires
-used-has-requires c κs =
+pub sweep-whole-requires : need.sweep-whole-requires
+sweep-whole-requires c κs =
     let inv = c .loop-k .inv in
-    simp take-rest record { leaf = omega (arith, c .loop-k-test .taken, inv .0 .table .order .most); words = inv .0 .table .order .words }
-
-pub sweep-piece-requires : need.sweep-piece-requires
-sweep-piece-requires c κs =
-    let inv = c .loop-k .inv in
-    let is : c .used-has .result ≡ used (drop (c .args .at .tables) (c .loop-k .w)) (c .loop-k .k) = simp take-rest at (c .used-has .ensures) in
-    record { store = inv .0; here = c .loop-k-test .taken; within = omega arith; row = c .pre .row; long = omega (arith, inv .5, c .pre .long); mark = c .pre .mark }
+    record { store = inv .0; here = c .loop-k-test .taken; row = c .pre .row; long = omega (arith, inv .5, c .pre .long); mark = c .pre .mark }
 
 pub loop-k-again : need.loop-k-again
 loop-k-again c =
@@ -33,23 +26,22 @@ loop-k-again c =
     let t = c .args .at .tables in
     let p = drop t (c .args .w .now) in
     let q = drop t (c .loop-k .w) in
-    let r = drop t (c .sweep-piece .last .w) in
+    let r = drop t (c .sweep-whole .last .w) in
     let k = c .loop-k .k in
     let s = c .args .at .slots in
     let a = c .args .action in
     let cs = changes-of (drop 16 (c .args .w .now)) (c .args .at .row) in
     let row : changes-of (drop 16 (c .loop-k .w)) (c .args .at .row) ≡ cs = row-kept (c .loop-k .w) (c .args .w .now) t (c .args .at .row) (c .pre .row) (inv .4) in
-    let h = rw row at (c .sweep-piece .ensures .changed) in
-    let is : c .used-has .result ≡ used q k = simp take-rest at (c .used-has .ensures) in
+    let h = c .sweep-whole .ensures in
     let here : k < s = c .loop-k-test .taken in (
-      c .sweep-piece .ensures .store,
-      frame-both (c .args .c .now) p (c .loop-k .c) q (c .sweep-piece .last .c) r s (inv .1) (h .frame),
-      below-more (λ j. piece (c .sweep-piece .last .c) r j ≡ swept a cs (piece (c .args .c .now) p j)) k
+      c .sweep-whole .ensures .store,
+      frame-both (c .args .c .now) p (c .loop-k .c) q (c .sweep-whole .last .c) r s (inv .1) (h .frame),
+      below-more (λ j. piece (c .sweep-whole .last .c) r j ≡ swept a cs (piece (c .args .c .now) p j)) k
           (λ j l. h .others j (omega arith) (omega arith) ∙ inv .2 j l)
-          (piece-swept (c .loop-k .c) q (c .sweep-piece .last .c) r s k (c .used-has .result) a cs (piece (c .args .c .now) p k) is h (inv .3 k (omega arith) here)),
+          (rw row at (h .swept) ∙ ap (swept a cs) (inv .3 k (omega arith) here)),
       (λ j l m. h .others j m (omega arith) ∙ inv .3 j (omega arith) m),
-      c .sweep-piece .ensures .head ∙ inv .4,
-      c .sweep-piece .kept .w ∙ inv .5,
+      c .sweep-whole .ensures .head ∙ inv .4,
+      c .sweep-whole .kept .w ∙ inv .5,
     )
 
 pub returns : need.returns

@@ -8,8 +8,8 @@ use Rattle.sweep.proofs.sweep_all.Given as given
 
 abbrev pub Inv-loop-k : given.InvT-loop-k
 Inv-loop-k l =
-    Store (l .c) (drop (l .tables) (l .w)) (l .at .slots) × Frame (l .entry .c) (drop (l .tables) (l .entry .w)) (l .c) (drop (l .tables) (l .w)) (l .at .slots)
-    × ((j : ℕ) → j < l .k → piece (l .c) (drop (l .tables) (l .w)) j ≡ swept (l .action) (changes-of (drop 16 (l .entry .w)) (l .at .row)) (piece (l .entry .c) (drop (l .tables) (l .entry .w)) j))
-    × ((j : ℕ) → l .k ≤ j → j < l .at .slots → piece (l .c) (drop (l .tables) (l .w)) j ≡ piece (l .entry .c) (drop (l .tables) (l .entry .w)) j)
-    × (take (l .tables) (l .w) ≡ take (l .tables) (l .entry .w))
+    Store (l .c) (drop (l .at .tables) (l .w)) (l .at .slots) × Frame (l .entry .c) (drop (l .at .tables) (l .entry .w)) (l .c) (drop (l .at .tables) (l .w)) (l .at .slots)
+    × ((j : ℕ) → j < l .k → piece (l .c) (drop (l .at .tables) (l .w)) j ≡ swept (l .action) (changes-of (drop 16 (l .entry .w)) (l .at .row)) (piece (l .entry .c) (drop (l .at .tables) (l .entry .w)) j))
+    × ((j : ℕ) → l .k ≤ j → j < l .at .slots → piece (l .c) (drop (l .at .tables) (l .w)) j ≡ piece (l .entry .c) (drop (l .at .tables) (l .entry .w)) j)
+    × (take (l .at .tables) (l .w) ≡ take (l .at .tables) (l .entry .w))
     × (length (l .w) ≡ length (l .entry .w))

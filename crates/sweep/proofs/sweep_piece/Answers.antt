@@ -13,6 +13,7 @@ use Rattle.pieces.specs.Store.{Store, piece, used}
 use Rattle.pieces.proofs.Change.{replaced-here}
 use Rattle.pieces.proofs.Edit.{store-after}
 use Rattle.sweep.specs.Sweep.{swept, swept-run}
+use Rattle.sweep.proofs.Sets.{past-tree, marked-after}
 use Rattle.sweep.proofs.sweep_piece.Needs as need
 
 pub sweep-slot-left-requires : need.sweep-slot-left-requires
@@ -29,7 +30,7 @@ sweep-slot-left-requires c κs =
     }
 
 pub used-requires : need.used-requires
-used-requires c κs = simp take-rest record { leaf = omega (arith, c .pre .here, c .pre .store .table .order .most); words = c .pre .store .table .order .words }
+used-requires c κs = simp take-rest record { leaf = omega (arith, c .pre .here, c .pre .store .table .order .most); words = past-tree (drop (c .args .at .tables) (c .args .w .now)) (c .args .at .slots) (c .pre .store .table .order) }
 
 pub sub-has : need.sub-has
 sub-has c =
@@ -42,7 +43,7 @@ resize-requires c κs =
     let small = c .pre .store .table .order .small (c .args .k) (c .pre .here) in
     let few = c .sweep-slot-left .ensures .few in
     let fits : c .used .result - c .args .n + c .sweep-slot-left .result ≤ 1024 = omega (arith, c .pre .within) in
-    simp take-rest record { leaf = omega (arith, c .pre .here, c .pre .store .table .order .most); words = c .pre .store .table .order .words; small = fits; sums = c .pre .store .table .sums }
+    simp take-rest record { order = c .pre .store .table .order; here = c .pre .here; small = fits; sums = c .pre .store .table .sums; mark = c .pre .mark }
 
 pub returns : need.returns
 returns c =
@@ -66,7 +67,8 @@ returns c =
     let back : drop t (putMid t (length w - t) w q) ≡ q = lent-back t w q (c .pre .long) long in
     let h = replaced-here (c .args .c .now) p (c .sweep-slot-left .last .c) q s k (c .args .o) (c .args .n) _ ys
     order (c .pre .here) (c .pre .within) (omega arith) (omega arith) filled resized in
-    let st = store-after (c .args .c .now) p (c .sweep-slot-left .last .c) q s (c .pre .store) (h .frame) (h .order) (c .resize .ensures .sums) in
+    let st = store-after (c .args .c .now) p (c .sweep-slot-left .last .c) q s (c .pre .store) (h .frame) (h .order) (c .resize .ensures .sums)
+    (marked-after (c .args .c .now) p (c .sweep-slot-left .last .c) q s k (c .args .o) (c .args .n) (c .args .action) cs order (c .pre .here) (c .pre .store .marked) (c .resize .ensures .noted) h) in
     record {
       changed = rw back h;
       store = rw back st;

@@ -10,6 +10,7 @@ use Rattle.pieces.proofs.Change.{frame-none, frame-both}
 use Rattle.sweep.specs.Sweep.{swept-run}
 use Rattle.sweep.proofs.Ahead.{row-kept}
 use Rattle.sweep.proofs.Runs.{before-small, swept-run-none, run-step}
+use Rattle.sweep.proofs.Sets.{past-tree}
 use Rattle.sweep.proofs.sweep_run.Needs as need
 
 pub loop-left-holds : need.loop-left-holds
@@ -27,7 +28,7 @@ locate-spot-requires c κs =
 pub used-requires : need.used-requires
 used-requires c κs =
     let inv = c .loop-left .inv in
-    simp take-rest record { leaf = omega (arith, c .locate-spot .ensures .here, inv .0 .table .order .most); words = inv .0 .table .order .words }
+    simp take-rest record { leaf = omega (arith, c .locate-spot .ensures .here, inv .0 .table .order .most); words = past-tree (drop (c .args .at .tables) (c .loop-left .w)) (c .args .at .slots) (inv .0 .table .order) }
 
 pub sub-has : need.sub-has
 sub-has c =

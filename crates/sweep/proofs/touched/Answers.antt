@@ -12,10 +12,6 @@ loop-k-holds c = (refl, omega arith)
 pub loop-k-again : need.loop-k-again
 loop-k-again c =
     let inv = c .loop-k .inv in
-    let e = c .touched-cells-count .ensures in
+    let e = c .touched-piece-count .ensures in
     let few = e .few in
-    let small = c .pre .table .order .small (c .loop-k .k) (c .loop-k-test .taken) in (
-      touched-next (c .args .c .now) (c .args .p .now) (c .loop-k .k) (c .args .change) (c .loop-k .count) (c .number-of .result) (c .used .result) (c .touched-cells-count .result)
-          (c .number-of .ensures) (c .used .ensures) (e .count) (inv .0),
-      omega arith,
-    )
+    (touched-next (c .args .c .now) (c .args .p .now) (c .loop-k .k) (c .args .change) (c .loop-k .count) (c .touched-piece-count .result) (e .count) (inv .0), omega arith)
