@@ -1,5 +1,4 @@
 mod Bits
-mod Spans
 pub mod Spots
 mod Scan
 mod Found

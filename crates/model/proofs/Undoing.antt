@@ -54,8 +54,8 @@ back_forward l d b bs can₅ can₆ f g e =
 
 -- the desk after a call that writes: the paper, what can be undone, what can be done again
 module _ (l : Limits) (d : Desk) (c : Call) (w : writes c ≡ true) (e : turned l d c ≡ 0) where
-  wrote_now : (after l d c).now ≡ rewritten d.now c
-  wrote_now = ap (λ (v : Desk). v.now) (done l d c e ∙ pick_true (writes c) _ _ w)
+  wrote-now : (after l d c).now ≡ rewritten d.now c
+  wrote-now = ap (λ (v : Desk). v.now) (done l d c e ∙ pick_true (writes c) _ _ w)
 
   wrote-past : (after l d c).past ≡ remembered l.undos (record { paper = d.now; much = how_much d.now c } ∷ d.past)
   wrote-past = ap (λ (v : Desk). v.past) (done l d c e ∙ pick_true (writes c) _ _ w)
@@ -69,7 +69,7 @@ undone_redone l d c w f e h can₅ can₆ =
     let past = wrote-past l d c w e in
     let b : Before = record { paper = d.now; much = how_much d.now c } in
     let first = latest l.undos b d.past (subst (λ (v : List Before). 0 < length v) past h) in
-    back_forward l (after l d c) b _ can₅ can₆ (ap (fits l) (wrote_now l d c w e) ∙ fits_after l d c e) f (past ∙ first)
+    back_forward l (after l d c) b _ can₅ can₆ (ap (fits l) (wrote-now l d c w e) ∙ fits_after l d c e) f (past ∙ first)
 
 pub nothing_to_redo : NothingToRedo
 unfolding NothingToRedo call_number good_fields turned_by place

@@ -12,13 +12,13 @@ use Rattle.model.proofs.Undoing.{fits_after}
 
 -- what every act does to the marks
 module _ (M : ℕ → Type 0) where
-  marks_append : (xs ys : List Cell) → Marks M xs → Marks M ys → Marks M (xs ++ ys)
-  marks_append [] ys h k = k
-  marks_append (x ∷ xs) ys h k = (h.0, marks_append xs ys h.1 k)
+  marks-append : (xs ys : List Cell) → Marks M xs → Marks M ys → Marks M (xs ++ ys)
+  marks-append [] ys h k = k
+  marks-append (x ∷ xs) ys h k = (h.0, marks-append xs ys h.1 k)
 
   -- other cells from place i on
   marks_from : (i : ℕ) (xs zs : List Cell) → Marks M xs → Marks M zs → Marks M (take i xs ++ zs)
-  marks_from i xs zs h k = marks_append (take i xs) zs (marks-take M i xs h) k
+  marks_from i xs zs h k = marks-append (take i xs) zs (marks-take M i xs h) k
 
   marks-new : (ls : List ℕ) (s c : ℕ) → M (suc c) → M 0 → Marks M (new_cells ls s c)
   unfolding new_cells
@@ -81,7 +81,7 @@ unfolding rewritten decided
 still_open p (put a i s ls) h =
     let cs : List Change = p.changes ++ (record { author = a; became = 0 } ∷ []) in
     let k = marks_map (Open p.changes) (Open cs) (open_more p.changes _) p.cells h in
-    marks_from (Open cs) i p.cells _ k (marks_append (Open cs) _ _ (marks-new (Open cs) ls s (length p.changes) (open_last p.changes a) (open_none cs)) (marks-drop (Open cs) i p.cells k))
+    marks_from (Open cs) i p.cells _ k (marks-append (Open cs) _ _ (marks-new (Open cs) ls s (length p.changes) (open_last p.changes a) (open_none cs)) (marks-drop (Open cs) i p.cells k))
 still_open p (strikes a i n) h =
     let cs : List Change = p.changes ++ (record { author = a; became = 0 } ∷ []) in
     let k = marks_map (Open p.changes) (Open cs) (open_more p.changes _) p.cells h in

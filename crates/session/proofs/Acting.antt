@@ -5,7 +5,7 @@ use Rattle.model.specs.Calls.{Call, Answer, refused, Desk, Limits, call_number, 
 use Rattle.session.specs.Memory.{stage, limits_of, paper_of, Held}
 use Rattle.session.specs.Acts.{Wrote, desk_of, Acted}
 
-pub apart : (n : ℕ) → eqb (suc n) 0 ≡ false
+apart : (n : ℕ) → eqb (suc n) 0 ≡ false
 apart n = ne_eqb (suc n) 0 (omega arith)
 
 -- why a call is turned away

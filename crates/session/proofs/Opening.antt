@@ -3,16 +3,12 @@ use Rattle.std.proofs.Common.{◌≡◌, ℕ, suc, ◌+◌, ◌-◌, ◌*◌, �
 use borrow.Rule.Slice.PartMut.{put_mid}
 use Rattle.std.specs.List.{range_with_len}
 use Rattle.std.proofs.lemmas.List.{length-append, length-replicate, length-drop, take_at, drop_at, append_assoc, drop_all, drop-drop, append-nil}
-use Rattle.model.specs.Paper.{Paper}
 use Rattle.model.specs.Calls.{new_desk}
 use Rattle.changes.specs.Row.{changes_from}
-use Rattle.history.specs.Steps.{StandsFor}
-use Rattle.history.specs.Log.{Log}
-use Rattle.history.proofs.Stepping.{opens}
 use Rattle.pieces.specs.Store.{Store, cells_of, cleared_cells, cleared_words}
 use Rattle.pieces.proofs.Cleared.{cleared-long}
 use Rattle.session.specs.Contract.{good_limits, enough}
-use Rattle.session.specs.Memory.{undo_words, slots_for, cells_words, pieces_words, limits_of, tables, paper_of, Sound, Stands, opened_cells, opened_pieces}
+use Rattle.session.specs.Memory.{undo_words, slots_for, cells_words, pieces_words, tables, paper_of, Sound, Stands, opened_cells, opened_pieces}
 
 -- the limits and no change
 abbrev pub head : ℕ → ℕ → ℕ → List ℕ
@@ -69,9 +65,9 @@ module _ (n c u : ℕ) (ps begun-words after-tables : List ℕ)
       ap length clears ∙ (cleared-long (drop (16 + 2 * c) begun-words) (slots_for n) (omega arith) (omega arith) ∙ l)
 
   pub stands : (cs us : List ℕ) → n ≤ 1000000 → c ≤ 65536 → u ≤ 1000000 → cells_words n ≤ length cs → pieces_words c ≤ length ps →
-      Store cs after-tables (slots_for n) → cells_of cs after-tables (slots_for n) ≡ [] → Log us u [] [] → Stands cs words us new_desk
+      Store cs after-tables (slots_for n) → cells_of cs after-tables (slots_for n) ≡ [] → Stands cs words us new_desk
   unfolding changes_from
-  stands cs us small_n small-c small-u long-cs long-ps store empty log =
+  stands cs us small_n small-c small-u long-cs long-ps store empty =
       let h = length_head n c u in
       let is : words ≡ head n c u ++ after-tables = words_are in
       let g0 : get_or words 0 0 ≡ n = ap (λ (xs : List ℕ). get_or xs 0 0) is in
@@ -86,8 +82,6 @@ module _ (n c u : ℕ) (ps begun-words after-tables : List ℕ)
       let st : Store cs (tables words) (slots_for (get_or words 0 0)) = rw (t, s) store in
       let none : cells_of cs (tables words) (slots_for (get_or words 0 0)) ≡ [] = rw (t, s) empty in
       let long : length after-tables ≡ length ps - (16 + 2 * c) = cleared-length small_n long-ps in
-      let paper : paper_of cs words ≡ record { cells = []; changes = [] } = rw (none, g3) refl in
-      let desk : StandsFor (limits_of words) (paper_of cs words) [] [] new_desk = subst (λ (p : Paper). StandsFor (limits_of words) p [] [] new_desk) (sym paper) (opens (limits_of words)) in
       record {
         sound = record {
           held = record {
@@ -100,13 +94,9 @@ module _ (n c u : ℕ) (ps begun-words after-tables : List ℕ)
             cells_fit = rw none (omega arith);
             changes_fit = omega arith;
           };
-          undo_long = omega (arith, g2, log.long);
-          back = [];
-          ahead = [];
-          log = subst (λ (m : ℕ). Log us m [] []) (sym g2) log;
-          sane = desk.sane;
+          undo_long = omega arith;
         };
-        desk = desk;
+        paper = rw (none, g3) refl;
       }
 
 pub allowed : (n c u : ℕ) (cs ps us : List ℕ) → n ≤ 1000000 → c ≤ 65536 → u ≤ 1000000 → cells_words n ≤ length cs → pieces_words c ≤ length ps →

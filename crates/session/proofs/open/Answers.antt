@@ -30,10 +30,8 @@ returns c =
       record {
         cells = cells;
         pieces = pieces_are n m u ps begun c.clear.new.p c.begin.ensures clears;
-        undo = c.clear-2.ensures.words;
-        stands =
-            stands n m u ps begun c.clear.new.p c.begin.ensures clears c.clear.new.c c.clear-2.new.u small_n small-m small-u (omega arith) long-ps store empty
-            c.clear-2.ensures.log;
+        undo = refl;
+        stands = stands n m u ps begun c.clear.new.p c.begin.ensures clears c.clear.new.c us small_n small-m small-u (omega arith) long-ps store empty;
         fit = (λ i. (c.type-inv.cells i).fits, λ i. (c.type-inv.pieces i).fits, λ i. (c.type-inv.undo i).fits);
       },
     )

@@ -1,17 +1,9 @@
-use Rattle.std.proofs.Common.{◌≤◌, length, get_or, arith, leb-true}
-use Rattle.model.specs.Calls.{number, put, rewritten}
-use Rattle.history.specs.Entry.{was_put}
-use Rattle.session.specs.Acts.{Wrote}
-use Rattle.session.specs.Memory.{paper_of}
-use Rattle.session.proofs.Logging.{Leaves, Recorded}
-use Rattle.session.proofs.Putting.{cells-counted, put-done, put_few, put-nowhere, put-room, put-too-much}
+use Rattle.std.proofs.Common.{◌≤◌, length, arith, leb-true}
+use Rattle.session.proofs.Putting.{cells-counted, put-done, put_few, put-nowhere, put-room, put-too-much, still}
 use Rattle.session.proofs.put.Goals as goal
 
 pub returns-in-default : goal.returns-in-default
-returns-in-default c =
-    let r =
-    put-nowhere c.requires.held c.count-cells-count.ensures c.args.undo.now c.args.author c.args.place c.args.style c.args.letters.now c.requires.good c.in-default.ensures in
-    record { logs = r.0; acted = r.1 }
+returns-in-default c = put-nowhere c.requires.held c.count-cells-count.ensures c.args.author c.args.place c.args.style c.args.letters.now c.requires.good c.in-default.ensures
 
 pub overflow-add-count : goal.overflow-add-count
 overflow-add-count c =
@@ -19,16 +11,10 @@ overflow-add-count c =
     record { fits = omega (arith, c.requires.held.cells_fit, c.requires.held.few_cells, cells-counted c.requires.held c.count-cells-count.ensures) }
 
 pub returns-in-default-room : goal.returns-in-default-room
-returns-in-default-room c =
-    let r =
-    put-too-much c.requires.held c.count-cells-count.ensures c.args.undo.now c.args.author c.args.place c.args.style c.args.letters.now c.requires.good c.in-Some.ensures.1 c.in-default-room.ensures in
-    record { logs = r.0; acted = r.1 }
+returns-in-default-room c = put-too-much c.requires.held c.count-cells-count.ensures c.args.author c.args.place c.args.style c.args.letters.now c.requires.good c.in-Some.ensures.1 c.in-default-room.ensures
 
-pub put-requires : goal.put-requires
-put-requires c = record { log = c.requires.log; few = put_few c.args.author c.args.place c.args.style c.args.letters.now c.requires.good }
-
-pub write-put-requires : goal.write-put-requires
-write-put-requires c =
+pub insert-requires : goal.insert-requires
+insert-requires c =
     let r = put-room c.requires.held c.count-cells-count.ensures c.args.letters.now c.in-Some-room.ensures.1 in
     let h : c.args.place ≤ c.count-cells-count.result = leb-true c.args.place c.count-cells-count.result c.in-Some.ensures.1 in
     record {
@@ -36,20 +22,20 @@ write-put-requires c =
       place = omega (arith, c.in-Some.ensures.0, cells-counted c.requires.held c.count-cells-count.ensures);
       few = put_few c.args.author c.args.place c.args.style c.args.letters.now c.requires.good;
       fits = r.0;
-      room = r.1;
+      mark = omega (arith, c.in-Some-room.ensures.0, r.1, c.requires.held.few_changes);
+    }
+
+pub add-change-requires : goal.add-change-requires
+add-change-requires c =
+    let r = put-room c.requires.held c.count-cells-count.ensures c.args.letters.now c.in-Some-room.ensures.1 in
+    let same = still c.insert.ensures in
+    record {
+      room = omega (arith, same.0, same.1, r.1);
+      few = c.insert.ensures.held.few_changes;
+      long = omega (arith, c.insert.ensures.held.pieces_long);
     }
 
 pub returns : goal.returns
 returns c =
-    let cs = c.args.cells.now in
-    let ps = c.args.pieces.now in
-    let us = c.args.undo.now in
-    let call = put c.args.author c.args.place c.args.style c.args.letters.now in
-    let note : Recorded us c.put.new.u (get_or ps 2 0) (was_put c.args.author c.args.place c.args.style c.args.letters.now) =
-    record { records = c.put.ensures.records; rest = c.put.ensures.rest; long = c.put.auto.u } in
-    let wrote : Wrote cs ps c.write-put.new.cells c.write-put.new.pieces (rewritten (paper_of cs ps) call) = rw c.in-Some.ensures.0 at c.write-put.ensures in
-    let r : Leaves cs ps us call c.write-put.new.cells c.write-put.new.pieces c.put.new.u (number c.in-Some-room.number) =
-    rw c.in-Some-room.ensures.0
-    (put-done c.requires.held c.count-cells-count.ensures us c.args.author c.args.place c.args.style c.args.letters.now c.requires.good c.in-Some.ensures.1
-    c.in-Some-room.ensures.1 note wrote) in
-    record { logs = r.0; acted = r.1 }
+    put-done c.requires.held c.count-cells-count.ensures c.args.author c.args.place c.args.style c.args.letters.now c.requires.good c.in-Some.ensures.0
+    c.in-Some-room.ensures.0 c.in-Some.ensures.1 c.in-Some-room.ensures.1 c.insert.ensures c.add-change.ensures

@@ -6,7 +6,7 @@ use Rattle.model.specs.Calls.{Answer, answer, lines, refused, show}
 use Rattle.layout.specs.Shown.{Shows, ShowsNone}
 use Rattle.session.specs.Acts.{Acted, desk_of}
 use Rattle.session.specs.Memory.{limits_of, paper_of, slots_of}
-use Rattle.session.proofs.Looking.{not-shown, show-range, shown}
+use Rattle.session.proofs.Looking.{not_shown, show-range, shown}
 use Rattle.session.proofs.Saying.{said}
 use Rattle.session.proofs.show.Goals as goal
 
@@ -38,4 +38,4 @@ returns-in-None c =
     let slots : c.slots-for-slots.result ≡ slots_of ps = c.slots-for-slots.ensures.slots in
     let s : ShowsNone all q.first q.count c.args.answer.now c.show.new.out = rw (take_rest, slots) at c.in-None.ensures in
     said cs ps (show q.way q.width q.first q.count) cs ps c.args.answer.now c.write.new.out c.write.result (refused 8 2)
-    (not-shown cs ps q.way q.width q.first q.count c.requires.held c.requires.good s.short) (rw s.same at c.write.ensures.bytes) c.write.ensures.long
+    (not_shown cs ps q.way q.width q.first q.count c.requires.held c.requires.good s.short) (rw s.same at c.write.ensures.bytes) c.write.ensures.long

@@ -1,10 +1,9 @@
-use Rattle.std.proofs.Common.{◌≡◌, ◌+◌, ◌≤◌, true, false, leb, length, refl, arith, leb-true}
-use Rattle.std.proofs.lemmas.List.{take_rest}
-use Rattle.model.specs.Calls.{rewritten, styles}
+use Rattle.std.proofs.Common.{◌≡◌, ◌+◌, ◌≤◌, true, false, leb, arith, leb-true}
 use Rattle.pieces.specs.Store.{before}
-use Rattle.session.specs.Acts.{Wrote, row_of}
+use Rattle.sweep.specs.Sweep.{swept_run}
+use Rattle.sweep.specs.declared.Action.TheVariants.{Style}
+use Rattle.session.specs.Acts.{Wrote, row_of, with_cells}
 use Rattle.session.specs.Memory.{paper_of, slots_of, tables}
-use Rattle.session.proofs.Logging.{recorded}
 use Rattle.session.proofs.Striking.{cells_there, style-done, style-nowhere}
 use Rattle.session.proofs.deciding.style.Goals as goal
 
@@ -12,31 +11,22 @@ pub returns-in-default : goal.returns-in-default
 returns-in-default c =
     let ps = c.args.pieces.now in
     let h : leb (c.args.place + c.args.count) (before (tables ps) (slots_of ps)) ≡ false = rw c.count-cells-total.ensures at c.in-default.ensures in
-    let r = style-nowhere c.args.cells.now ps c.requires.held c.args.undo.now c.args.place c.args.count c.args.style c.requires.good h in
-    record { logs = r.0; acted = r.1 }
+    style-nowhere c.args.cells.now ps c.requires.held c.args.place c.args.count c.args.style c.requires.good h
 
-pub style-requires : goal.style-requires
-style-requires c =
-    let ps = c.args.pieces.now in
-    let inside : c.args.place + c.args.count ≤ c.count-cells-total.result = leb-true (c.args.place + c.args.count) c.count-cells-total.result c.in-Some.ensures.1 in
-    let within : c.args.place + c.args.count ≤ length (paper_of c.args.cells.now ps).cells = omega (arith, cells_there c.args.cells.now ps c.requires.held, c.count-cells-total.ensures) in
-    let slots : c.slots-for-slots.result ≡ slots_of ps = c.slots-for-slots.ensures.slots in
-    rw (take_rest, slots) record { log = c.requires.log; store = c.requires.held.store; within = within }
-
-pub write-style-requires : goal.write-style-requires
-write-style-requires c =
+pub sweep-run-requires : goal.sweep-run-requires
+sweep-run-requires c =
     let inside : c.args.place + c.args.count ≤ c.count-cells-total.result = leb-true (c.args.place + c.args.count) c.count-cells-total.result c.in-Some.ensures.1 in
     let all = cells_there c.args.cells.now c.args.pieces.now c.requires.held in
-    record { held = c.requires.held; within = omega (arith, c.in-Some.ensures.0, c.count-cells-total.ensures) }
+    record { held = c.requires.held; within = omega (arith, c.in-Some.ensures.0, c.count-cells-total.ensures); mark = tt }
 
 pub returns : goal.returns
 returns c =
     let cs = c.args.cells.now in
     let ps = c.args.pieces.now in
-    let call = styles c.args.place c.args.count c.args.style in
-    let h : leb (c.args.place + c.args.count) (before (tables ps) (slots_of ps)) ≡ true = rw c.count-cells-total.ensures at c.in-Some.ensures.1 in
-    let slots : c.slots-for-slots.result ≡ slots_of ps = c.slots-for-slots.ensures.slots in
-    let note = recorded cs ps call (c.style.ensures.records (row_of ps)) (rw (take_rest, slots) refl) c.style.ensures.rest c.style.auto.u in
-    let wrote : Wrote cs ps c.write-style.new.cells c.write-style.new.pieces (rewritten (paper_of cs ps) call) = rw c.in-Some.ensures.0 at c.write-style.ensures in
-    let r = style-done cs ps c.requires.held c.args.undo.now c.args.place c.args.count c.args.style c.requires.good h note wrote in
-    record { logs = r.0; acted = r.1 }
+    let i = c.args.place in
+    let n = c.args.count in
+    let at : c.in-Some.at ≡ i = c.in-Some.ensures.0 in
+    let h : leb (i + n) (before (tables ps) (slots_of ps)) ≡ true = rw c.count-cells-total.ensures at c.in-Some.ensures.1 in
+    let wrote : Wrote cs ps c.sweep-run.new.cells c.sweep-run.new.pieces (with_cells (paper_of cs ps) (swept_run (Style c.args.style) (row_of ps) (paper_of cs ps).cells i n)) =
+    rw at at c.sweep-run.ensures in
+    style-done cs ps c.requires.held i n c.args.style c.requires.good c.sweep-run.new.cells c.sweep-run.new.pieces h wrote
