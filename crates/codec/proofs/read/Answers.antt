@@ -16,21 +16,21 @@ returns-then-len-eq0 c =
 pub returns-then-len-head : goal.returns-then-len-head
 returns-then-len-head c =
     let bs = c.args.bytes.now in
-    let h : length bs < head_length (get_or bs 0 0) = rw c.head-length-head.ensures at c.if-len-head.true in
+    let h : length bs < head_length (get_or bs 0 0) = rw c.head_length-head.ensures at c.if-len-head.true in
     (few-fields bs c.if-len-eq0.false c.if-bytes-ge12.false h, omega arith)
 
 pub returns-then-len-whole : goal.returns-then-len-whole
 returns-then-len-whole c =
     let bs = c.args.bytes.now in
-    let e : head_length (get_or bs 0 0) ≤ length bs = rw c.head-length-head.ensures at c.if-len-head.false in
-    let h : length bs < whole_length bs = rw (c.head-length-head.ensures, c.letter_count.ensures) at c.if-len-whole.true in
+    let e : head_length (get_or bs 0 0) ≤ length bs = rw c.head_length-head.ensures at c.if-len-head.false in
+    let h : length bs < whole_length bs = rw (c.head_length-head.ensures, c.letter_count.ensures) at c.if-len-whole.true in
     (few-letters bs c.if-len-eq0.false c.if-bytes-ge12.false e h, omega arith)
 
 pub returns-then-whole-len : goal.returns-then-whole-len
 returns-then-whole-len c =
     let bs = c.args.bytes.now in
-    let e : head_length (get_or bs 0 0) ≤ length bs = rw c.head-length-head.ensures at c.if-len-head.false in
-    let w : whole_length bs ≡ c.head-length-head.result + c.letter_count.result = cc in
+    let e : head_length (get_or bs 0 0) ≤ length bs = rw c.head_length-head.ensures at c.if-len-head.false in
+    let w : whole_length bs ≡ c.head_length-head.result + c.letter_count.result = cc in
     let h : whole_length bs < length bs = rw w c.if-whole-len.true in
     let r = too_many bs c.if-len-eq0.false c.if-bytes-ge12.false e h in
     (cc, omega arith)
@@ -38,8 +38,8 @@ returns-then-whole-len c =
 pub returns : goal.returns
 returns c =
     let bs = c.args.bytes.now in
-    let e : head_length (get_or bs 0 0) ≤ length bs = rw c.head-length-head.ensures at c.if-len-head.false in
-    let w : whole_length bs ≡ c.head-length-head.result + c.letter_count.result = cc in
+    let e : head_length (get_or bs 0 0) ≤ length bs = rw c.head_length-head.ensures at c.if-len-head.false in
+    let w : whole_length bs ≡ c.head_length-head.result + c.letter_count.result = cc in
     let h : length bs ≡ whole_length bs = rw w (omega arith) in
     let r = whole bs c.if-len-eq0.false c.if-bytes-ge12.false e h in
     let m = c.fields.ensures (drop (head_length (get_or bs 0 0)) bs) in

@@ -4,4 +4,4 @@ use Rattle.file.proofs.past_white.Goals as goal
 
 pub loop-at-preserved : goal.loop-at-preserved
 loop-at-preserved c =
-    (omega arith, omega arith, white_more c.args.text.now _ c.loop-at.at c.loop-at-test.true (sym c.if-is-white.ensures) c.loop-at.invariant.2)
+    (omega arith, omega arith, white_more c.args.text.now _ c.loop-at.at c.loop-at-test.true (sym c.if-is_white.ensures) c.loop-at.invariant.2)

@@ -5,9 +5,9 @@ use Rattle.file.proofs.Beginnings.{whole, misfit, short, begins}
 use Rattle.file.proofs.read.Goals as goal
 use Rattle.file.proofs.read.Goals.{then-len-before-via-then-len-before, then-len-before-via-else-len-before+then-len-before-gt0}
 
-pub returns-then-not-number-fits : goal.returns-then-not-number-fits
-returns-then-not-number-fits c =
-    record { within = omega arith; begins = begins _ _ (omega arith) c.loop-i.invariant; ends = misfit _ _ (omega arith) c.if-not-number-fits.ensures }
+pub returns-then-not-number_fits : goal.returns-then-not-number_fits
+returns-then-not-number_fits c =
+    record { within = omega arith; begins = begins _ _ (omega arith) c.loop-i.invariant; ends = misfit _ _ (omega arith) c.if-not-number_fits.ensures }
 
 pub returns-then-len-eq0 : goal.returns-then-len-eq0
 returns-then-len-eq0 c =

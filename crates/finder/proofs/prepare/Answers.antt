@@ -10,10 +10,10 @@ loop-i-init c = (filling_first c.args.letters.now c.args.table.now (omega arith)
 pub step-k-requires : goal.step-k-requires
 step-k-requires c =
     let f = c.loop-i.invariant.0 in
-    ((omega arith, omega (arith, length-set c.args.table.now 0 0)), λ j h. f.right j (omega (arith, f.small)))
+    record { matched_in_bounds = (omega arith, omega (arith, length-set c.args.table.now 0 0)); table = λ j h. f.right j (omega (arith, f.small)) }
 
-pub overflow-cast-table : goal.overflow-cast-table
-overflow-cast-table c = omega (arith, (c.step-k.ensures _ c.loop-i.invariant.0.matches).ends.fits)
+pub overflow_cast-table : goal.overflow_cast-table
+overflow_cast-table c = omega (arith, (c.step-k.ensures _ c.loop-i.invariant.0.matches).ends.fits)
 
 pub loop-i-preserved : goal.loop-i-preserved
 loop-i-preserved c = (

@@ -8,7 +8,7 @@ loop-k-init c = (omega arith, λ t m. falling_first m)
 
 pub loop-k-preserved : goal.loop-k-preserved
 loop-k-preserved c =
-    let o = border_of c.args.letters.now c.args.table.now c.args.matched c.loop-k.k c.requires.1 c.if-k-eq0.false c.loop-k.invariant.0 in
+    let o = border_of c.args.letters.now c.args.table.now c.args.matched c.loop-k.k c.requires.table c.if-k-eq0.false c.loop-k.invariant.0 in
     (omega (arith, o.proper, c.loop-k.invariant.0), λ t m. falling_on c.loop-k-test.true o (c.loop-k.invariant.1 t m))
 
 pub returns-then-k-eq0 : goal.returns-then-k-eq0

@@ -19,8 +19,8 @@ gap-spot-requires-2 c =
     let b = same_before c.args.c.now c.args.p.now c.repack.new.c c.repack.new.p c.args.s h in
     record { table = record { order = h.order; sums = c.repack.ensures.sums }; place = omega (arith, c.requires.place) }
 
-pub insert-at-requires-2 : goal.insert-at-requires-2
-insert-at-requires-2 c =
+pub insert_at-requires-2 : goal.insert_at-requires-2
+insert_at-requires-2 c =
     let e = length_text c.args.c.now c.args.p.now c.args.s in
     let h = c.repack.ensures.same in
     let small = c.requires.store.table.order.small c.gap-spot.result.piece c.gap-spot.ensures.here in
@@ -36,7 +36,7 @@ insert-at-requires-2 c =
 
 pub returns-then-has-le-CELLS : goal.returns-then-has-le-CELLS
 returns-then-has-le-CELLS c =
-    edited_as c.args.c.now c.args.p.now c.insert-at.new.c c.insert-at.new.p c.args.s _ _ c.insert-at.ensures
+    edited_as c.args.c.now c.args.p.now c.insert_at.new.c c.insert_at.new.p c.args.s _ _ c.insert_at.ensures
     (put_text (cells_of c.args.c.now c.args.p.now c.args.s) (cells_at c.args.new.now c.args.from c.args.n)
     (before c.args.p.now c.gap-spot.result.piece + c.gap-spot.result.offset) c.args.place c.gap-spot.ensures.sum)
 
@@ -46,5 +46,5 @@ returns c =
     let t = cells_of c.args.c.now c.args.p.now c.args.s in
     let new = cells_at c.args.new.now c.args.from c.args.n in
     let i = before c.repack.new.p c.gap-spot-2.result.piece + c.gap-spot-2.result.offset in
-    edited_both c.args.c.now c.args.p.now c.repack.new.c c.repack.new.p c.insert-at-2.new.c c.insert-at-2.new.p c.args.s _ _ h.frame
-    c.insert-at-2.ensures (ap (λ x. replaced x i 0 new) h.text ∙ put_text t new i c.args.place c.gap-spot-2.ensures.sum)
+    edited_both c.args.c.now c.args.p.now c.repack.new.c c.repack.new.p c.insert_at-2.new.c c.insert_at-2.new.p c.args.s _ _ h.frame
+    c.insert_at-2.ensures (ap (λ x. replaced x i 0 new) h.text ∙ put_text t new i c.args.place c.gap-spot-2.ensures.sum)

@@ -5,8 +5,8 @@ use Rattle.pieces.proofs.Sets.{piece_noted, sums_beside}
 use Rattle.pieces.proofs.Change.{replaced_here, resized_grown}
 use Rattle.pieces.proofs.insert_here.Goals as goal
 
-pub note-cells-requires : goal.note-cells-requires
-note-cells-requires c =
+pub note_cells-requires : goal.note_cells-requires
+note_cells-requires c =
     let o = c.requires.store.table.order in
     let most = o.most in
     let words = o.words in
@@ -23,13 +23,13 @@ returns c =
     let n = length_cells c.args.new.now c.args.from c.args.n in
     let xs = cells_at c.args.new.now c.args.from c.args.n in
     let q = c.resize.new.p in
-    let r = c.note-cells.new.p in
+    let r = c.note_cells.new.p in
     let e = c.resize.ensures.resized.order k (omega arith) in
     let a = o.inside k c.requires.here in
-    let noted = piece_noted q r k xs (omega arith) (omega arith) (omega (arith, c.resize.auto.p)) c.note-cells.ensures in
+    let noted = piece_noted q r k xs (omega arith) (omega arith) (omega (arith, c.resize.auto.p)) c.note_cells.ensures in
     record {
-      changed = replaced_here c.args.c.now c.args.p.now c.insert-cells.new.c r c.args.s k c.args.o 0 _
-          xs o c.requires.here (omega arith) (omega arith) (omega arith) c.insert-cells.ensures
+      changed = replaced_here c.args.c.now c.args.p.now c.insert_cells.new.c r c.args.s k c.args.o 0 _
+          xs o c.requires.here (omega arith) (omega arith) (omega arith) c.insert_cells.ensures
           (resized_grown c.args.p.now q r k _ (omega arith) c.resize.ensures.resized noted.0);
       sums = sums_beside q r noted.0.beside c.resize.ensures.sums;
       marks = noted.1;

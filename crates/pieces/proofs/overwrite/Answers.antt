@@ -11,5 +11,5 @@ returns c =
     let a = o.inside c.args.k c.requires.here in
     let noted = cell_noted c.args.p.now c.note.new.p c.note-2.new.p c.args.k (cell_of c.args.cell) (omega arith) (omega arith) o.words
     c.note.ensures c.note-2.ensures in
-    written c.args.c.now c.write.new.c c.args.p.now c.note-2.new.p c.args.s c.args.k c.args.o c.number-of.result (cell_of c.args.cell)
-    c.requires.store c.requires.here c.requires.within c.number-of.ensures c.write.ensures.written c.write.ensures.kept noted.0 noted.1
+    written c.args.c.now c.write.new.c c.args.p.now c.note-2.new.p c.args.s c.args.k c.args.o c.number_of.result (cell_of c.args.cell)
+    c.requires.store c.requires.here c.requires.within c.number_of.ensures c.write.ensures.written c.write.ensures.kept noted.0 noted.1

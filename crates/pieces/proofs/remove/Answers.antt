@@ -13,8 +13,8 @@ loop-left-init c = (
       (removed_none (cells_of c.args.c.now c.args.p.now c.args.s) c.args.place (c.args.n - c.args.n) (omega arith)),
 )
 
-pub remove-some-left-requires : goal.remove-some-left-requires
-remove-some-left-requires c =
+pub remove_some-left-requires : goal.remove_some-left-requires
+remove_some-left-requires c =
     let t = cells_of c.args.c.now c.args.p.now c.args.s in
     let h = c.loop-left.invariant.1 in
     let le = c.loop-left.invariant.0 in
@@ -29,15 +29,15 @@ loop-left-preserved c =
     let t = cells_of c.args.c.now c.args.p.now c.args.s in
     let h = c.loop-left.invariant.1 in
     let le = c.loop-left.invariant.0 in
-    let g = c.remove-some-left.ensures.edited in
-    let r = c.remove-some-left.result in
-    let most = c.remove-some-left.ensures.most in
+    let g = c.remove_some-left.ensures.edited in
+    let r = c.remove_some-left.result in
+    let most = c.remove_some-left.ensures.most in
     let w = c.requires.within in
     let n = c.args.n in
     let left = c.loop-left.left in
     let e : n - left + r ≡ n - (left - r) = omega arith in (
       omega arith,
-      edited_both c.args.c.now c.args.p.now c.loop-left.c c.loop-left.p c.remove-some-left.new.c c.remove-some-left.new.p c.args.s _ _ h.frame g
+      edited_both c.args.c.now c.args.p.now c.loop-left.c c.loop-left.p c.remove_some-left.new.c c.remove_some-left.new.p c.args.s _ _ h.frame g
           (ap (λ x. replaced x c.args.place r []) h.text ∙ removed_more t c.args.place (n - left) r (omega arith) ∙ ap (λ x. replaced t c.args.place x []) e),
     )
 

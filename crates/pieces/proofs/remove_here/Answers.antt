@@ -6,7 +6,7 @@ pub returns : goal.returns
 returns c =
     let small = c.requires.store.table.order.small c.args.k c.requires.here in
     record {
-      changed = replaced_here c.args.c.now c.args.p.now c.remove-cells.new.c c.resize.new.p c.args.s c.args.k c.args.o c.args.n _ []
-          c.requires.store.table.order c.requires.here c.requires.within (omega arith) (omega arith) c.remove-cells.ensures c.resize.ensures.resized;
+      changed = replaced_here c.args.c.now c.args.p.now c.remove_cells.new.c c.resize.new.p c.args.s c.args.k c.args.o c.args.n _ []
+          c.requires.store.table.order c.requires.here c.requires.within (omega arith) (omega arith) c.remove_cells.ensures c.resize.ensures.resized;
       sums = c.resize.ensures.sums;
     }

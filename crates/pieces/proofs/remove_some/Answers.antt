@@ -3,8 +3,8 @@ use Rattle.pieces.specs.Store.{used}
 use Rattle.pieces.proofs.Edit.{edited}
 use Rattle.pieces.proofs.remove_some.Goals as goal
 
-pub remove-here-requires : goal.remove-here-requires
-remove-here-requires c = record { store = c.requires.store; here = c.locate-spot.ensures.here; within = omega (arith, c.locate-spot.ensures.within) }
+pub remove_here-requires : goal.remove_here-requires
+remove_here-requires c = record { store = c.requires.store; here = c.locate-spot.ensures.here; within = omega (arith, c.locate-spot.ensures.within) }
 
 pub returns : goal.returns
 returns c =
@@ -12,8 +12,8 @@ returns c =
     let m : c.locate-spot.result.offset + c.min-m.result ≤ used c.args.p.now c.locate-spot.result.piece = omega arith in
     record {
       edited = rw c.locate-spot.ensures.sum at
-          (edited c.args.c.now c.args.p.now c.remove-here.new.c c.remove-here.new.p c.args.s c.locate-spot.result.piece c.locate-spot.result.offset
-          c.min-m.result [] c.requires.store c.locate-spot.ensures.here m c.remove-here.ensures.changed c.remove-here.ensures.sums tt);
+          (edited c.args.c.now c.args.p.now c.remove_here.new.c c.remove_here.new.p c.args.s c.locate-spot.result.piece c.locate-spot.result.offset
+          c.min-m.result [] c.requires.store c.locate-spot.ensures.here m c.remove_here.ensures.changed c.remove_here.ensures.sums tt);
       some = omega arith;
       most = omega arith;
     }

@@ -4,5 +4,5 @@ use Rattle.pieces.proofs.rotate.Goals as goal
 
 pub returns : goal.returns
 returns c =
-    rotated c.args.p.now c.copy-within.new.self (set c.copy-within.new.self c.args.from (get_or c.args.p.now c.args.to 0)) c.args.from c.args.to
-    c.requires.order c.requires.within c.copy-within.ensures.len c.copy-within.ensures.by_index refl
+    rotated c.args.p.now c.copy_within.new.self (set c.copy_within.new.self c.args.from (get_or c.args.p.now c.args.to 0)) c.args.from c.args.to
+    c.requires.order c.requires.within c.copy_within.ensures.len c.copy_within.ensures.by_index refl

@@ -3,17 +3,17 @@ use Rattle.std.proofs.Common.{arith}
 use Rattle.tree.proofs.+descend.Goals as goal
 use Rattle.tree.proofs.Descent.{from_leaf, found_leaf, inner, over-left, over-right, found_left, found_right}
 
-pub overflow-sub-result : goal.overflow-sub-result
-overflow-sub-result t c = from_leaf _ _ _ _ c.if-height-eq0.true c.requires
+pub overflow_sub-result : goal.overflow_sub-result
+overflow_sub-result t c = from_leaf _ _ _ _ c.if-height-eq0.true c.requires
 
 pub returns-then-height-eq0 : goal.returns-then-height-eq0
 returns-then-height-eq0 t c = found_leaf _ _ _ _ c.if-height-eq0.true c.requires
 
-pub overflow-mul-child : goal.overflow-mul-child
-overflow-mul-child t c = omega (arith, inner _ _ _ _ (omega arith) c.requires)
+pub overflow_mul-child : goal.overflow_mul-child
+overflow_mul-child t c = omega (arith, inner _ _ _ _ (omega arith) c.requires)
 
-pub offset-bounds-t-child : goal.offset-bounds-t-child
-offset-bounds-t-child t c = omega (arith, inner _ _ _ _ (omega arith) c.requires)
+pub offset_bounds-t-child : goal.offset_bounds-t-child
+offset_bounds-t-child t c = omega (arith, inner _ _ _ _ (omega arith) c.requires)
 
 pub bounds-t-child : goal.bounds-t-child
 bounds-t-child t c = omega (arith, inner _ _ _ _ (omega arith) c.requires, c.requires.sums.long)
@@ -21,8 +21,8 @@ bounds-t-child t c = omega (arith, inner _ _ _ _ (omega arith) c.requires, c.req
 pub descend-requires : goal.descend-requires
 descend-requires t c = (omega arith, over-left _ _ _ _ (omega arith) c.requires (omega arith))
 
-pub overflow-add-child : goal.overflow-add-child
-overflow-add-child t c = omega (arith, inner _ _ _ _ (omega arith) c.requires)
+pub overflow_add-child : goal.overflow_add-child
+overflow_add-child t c = omega (arith, inner _ _ _ _ (omega arith) c.requires)
 
 pub descend-requires-else-place-left : goal.descend-requires-else-place-left
 descend-requires-else-place-left t c = (omega arith, over-right _ _ _ _ (omega arith) c.requires (omega arith))

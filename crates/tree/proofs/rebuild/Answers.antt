@@ -7,8 +7,8 @@ pub loop-node-init : goal.loop-node-init
 loop-node-init c =
     record { kept = record { long = c.requires.long; light = c.requires.light; unused = refl; same = refl }; above = λ i h k. absurd (omega arith) }
 
-pub add-up-requires : goal.add-up-requires
-add-up-requires c =
+pub add_up-requires : goal.add_up-requires
+add_up-requires c =
     record {
       long = c.loop-node.invariant.kept.long;
       node = omega arith;
@@ -16,7 +16,7 @@ add-up-requires c =
     }
 
 pub loop-node-preserved : goal.loop-node-preserved
-loop-node-preserved c = simp c.add-up.ensures (build_more _ _ _ c.loop-node.invariant (omega arith) (omega arith))
+loop-node-preserved c = simp c.add_up.ensures (build_more _ _ _ c.loop-node.invariant (omega arith) (omega arith))
 
 pub returns : goal.returns
 returns c =

@@ -7,8 +7,8 @@ use Rattle.tree.proofs.set.Goals as goal
 pub loop-node-init : goal.loop-node-init
 loop-node-init c = climb_start _ _ _ c.requires.sums c.requires.leaf c.requires.value
 
-pub add-up-requires : goal.add-up-requires
-add-up-requires c =
+pub add_up-requires : goal.add_up-requires
+add_up-requires c =
     record {
       long = c.loop-node.invariant.kept.long;
       node = omega (arith, c.loop-node.invariant.high);
@@ -16,7 +16,7 @@ add-up-requires c =
     }
 
 pub loop-node-preserved : goal.loop-node-preserved
-loop-node-preserved c = simp c.add-up.ensures (climb_more _ _ _ c.loop-node.invariant (omega arith))
+loop-node-preserved c = simp c.add_up.ensures (climb_more _ _ _ c.loop-node.invariant (omega arith))
 
 pub returns : goal.returns
 returns c =

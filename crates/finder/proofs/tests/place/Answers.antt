@@ -6,8 +6,8 @@ use Rattle.finder.proofs.tests.place.Goals as goal
 pub loop-i-init : goal.loop-i-init
 loop-i-init c = seeking_none c.args.letters.now c.args.text.now (omega arith)
 
-pub overflow-sub-result : goal.overflow-sub-result
-overflow-sub-result c = seeking_read c.step-k.ensures c.loop-i.invariant
+pub overflow_sub-result : goal.overflow_sub-result
+overflow_sub-result c = seeking_read c.step-k.ensures c.loop-i.invariant
 
 pub loop-i-preserved : goal.loop-i-preserved
 loop-i-preserved c = seeking_more c.loop-i-test.true c.step-k.ensures c.if-k-letters.false c.loop-i.invariant

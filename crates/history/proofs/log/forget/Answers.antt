@@ -7,8 +7,8 @@ loop-u-init c = forgetting_none c.args.u.now c.args.most c.requires
 
 pub loop-u-preserved : goal.loop-u-preserved
 loop-u-preserved c =
-    forgetting_more c.args.u.now c.loop-u.u c.forget-oldest.new.u c.args.most c.loop-u.invariant c.loop-u-test.true
-    c.forget-oldest.ensures.forgets c.forget-oldest.ensures.rest
+    forgetting_more c.args.u.now c.loop-u.u c.forget_oldest.new.u c.args.most c.loop-u.invariant c.loop-u-test.true
+    c.forget_oldest.ensures.forgets c.forget_oldest.ensures.rest
 
 pub returns : goal.returns
 returns c =

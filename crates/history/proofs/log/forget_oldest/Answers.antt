@@ -9,14 +9,14 @@ bounds-u-at c = omega (arith, old_can c.args.u.now c.read-log.result c.requires.
 pub bounds-u-at-2 : goal.bounds-u-at-2
 bounds-u-at-2 c = omega (arith, old_can c.args.u.now c.read-log.result c.requires.log c.read-log.ensures c.requires.more)
 
-pub overflow-add-state : goal.overflow-add-state
-overflow-add-state c = omega (arith, old_can c.args.u.now c.read-log.result c.requires.log c.read-log.ensures c.requires.more)
+pub overflow_add-state : goal.overflow_add-state
+overflow_add-state c = omega (arith, old_can c.args.u.now c.read-log.result c.requires.log c.read-log.ensures c.requires.more)
 
-pub overflow-sub-state : goal.overflow-sub-state
-overflow-sub-state c = omega (arith, old_can c.args.u.now c.read-log.result c.requires.log c.read-log.ensures c.requires.more)
+pub overflow_sub-state : goal.overflow_sub-state
+overflow_sub-state c = omega (arith, old_can c.args.u.now c.read-log.result c.requires.log c.read-log.ensures c.requires.more)
 
-pub overflow-sub-state-2 : goal.overflow-sub-state-2
-overflow-sub-state-2 c = omega (arith, old_can c.args.u.now c.read-log.result c.requires.log c.read-log.ensures c.requires.more)
+pub overflow_sub-state-2 : goal.overflow_sub-state-2
+overflow_sub-state-2 c = omega (arith, old_can c.args.u.now c.read-log.result c.requires.log c.read-log.ensures c.requires.more)
 
 pub returns : goal.returns
 returns c =

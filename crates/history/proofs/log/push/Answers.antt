@@ -10,11 +10,11 @@ returns c =
       rest = c.write.ensures.rest;
     }
 
-pub overflow-add-state : goal.overflow-add-state
-overflow-add-state c = omega (arith, push_can c.args.u.now c.read-log.result c.args.size c.args.count c.requires c.read-log.ensures)
+pub overflow_add-state : goal.overflow_add-state
+overflow_add-state c = omega (arith, push_can c.args.u.now c.read-log.result c.args.size c.args.count c.requires c.read-log.ensures)
 
-pub overflow-add-state-2 : goal.overflow-add-state-2
-overflow-add-state-2 c = omega (arith, push_can c.args.u.now c.read-log.result c.args.size c.args.count c.requires c.read-log.ensures)
+pub overflow_add-state-2 : goal.overflow_add-state-2
+overflow_add-state-2 c = omega (arith, push_can c.args.u.now c.read-log.result c.args.size c.args.count c.requires c.read-log.ensures)
 
-pub overflow-add-state-3 : goal.overflow-add-state-3
-overflow-add-state-3 c = omega (arith, push_can c.args.u.now c.read-log.result c.args.size c.args.count c.requires c.read-log.ensures)
+pub overflow_add-state-3 : goal.overflow_add-state-3
+overflow_add-state-3 c = omega (arith, push_can c.args.u.now c.read-log.result c.args.size c.args.count c.requires c.read-log.ensures)

@@ -14,7 +14,7 @@ returns-then-end-count c =
 pub returns : goal.returns
 returns c =
     record {
-      stays = c.to-front.ensures.stays;
-      room = room_front c.args.u.now c.to-front.new.u c.args.limit c.args.count c.requires.log c.requires.none c.requires.within c.to-front.ensures.stays c.to-front.ensures.front;
-      rest = c.to-front.ensures.rest (16 + 16 * c.args.limit) c.requires.log.log.room;
+      stays = c.to_front.ensures.stays;
+      room = room_front c.args.u.now c.to_front.new.u c.args.limit c.args.count c.requires.log c.requires.none c.requires.within c.to_front.ensures.stays c.to_front.ensures.front;
+      rest = c.to_front.ensures.rest (16 + 16 * c.args.limit) c.requires.log.log.room;
     }

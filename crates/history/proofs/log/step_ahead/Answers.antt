@@ -9,17 +9,17 @@ bounds-u-at c = omega (arith, ahead_can c.args.u.now c.read-log.result c.require
 pub bounds-u-at-2 : goal.bounds-u-at-2
 bounds-u-at-2 c = omega (arith, ahead_can c.args.u.now c.read-log.result c.requires.log c.read-log.ensures c.requires.more)
 
-pub overflow-add-state : goal.overflow-add-state
-overflow-add-state c = omega (arith, ahead_can c.args.u.now c.read-log.result c.requires.log c.read-log.ensures c.requires.more)
+pub overflow_add-state : goal.overflow_add-state
+overflow_add-state c = omega (arith, ahead_can c.args.u.now c.read-log.result c.requires.log c.read-log.ensures c.requires.more)
 
-pub overflow-add-state-2 : goal.overflow-add-state-2
-overflow-add-state-2 c = omega (arith, ahead_can c.args.u.now c.read-log.result c.requires.log c.read-log.ensures c.requires.more)
+pub overflow_add-state-2 : goal.overflow_add-state-2
+overflow_add-state-2 c = omega (arith, ahead_can c.args.u.now c.read-log.result c.requires.log c.read-log.ensures c.requires.more)
 
-pub overflow-add-state-3 : goal.overflow-add-state-3
-overflow-add-state-3 c = omega (arith, ahead_can c.args.u.now c.read-log.result c.requires.log c.read-log.ensures c.requires.more)
+pub overflow_add-state-3 : goal.overflow_add-state-3
+overflow_add-state-3 c = omega (arith, ahead_can c.args.u.now c.read-log.result c.requires.log c.read-log.ensures c.requires.more)
 
-pub overflow-sub-state-2 : goal.overflow-sub-state-2
-overflow-sub-state-2 c = omega (arith, ahead_can c.args.u.now c.read-log.result c.requires.log c.read-log.ensures c.requires.more)
+pub overflow_sub-state-2 : goal.overflow_sub-state-2
+overflow_sub-state-2 c = omega (arith, ahead_can c.args.u.now c.read-log.result c.requires.log c.read-log.ensures c.requires.more)
 
 pub returns : goal.returns
 returns c =

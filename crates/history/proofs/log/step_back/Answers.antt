@@ -3,20 +3,20 @@ use Rattle.std.proofs.Common.{arith}
 use Rattle.history.proofs.Keeping.{back_can, back_at, stepped_back, keeps_back}
 use Rattle.history.proofs.log.step_back.Goals as goal
 
-pub overflow-sub-cursor : goal.overflow-sub-cursor
-overflow-sub-cursor c = (back_can c.args.u.now c.read-log.result c.requires.log c.read-log.ensures c.requires.more).fits
+pub overflow_sub-cursor : goal.overflow_sub-cursor
+overflow_sub-cursor c = (back_can c.args.u.now c.read-log.result c.requires.log c.read-log.ensures c.requires.more).fits
 
 pub bounds-u-at : goal.bounds-u-at
 bounds-u-at c = omega (arith, back_can c.args.u.now c.read-log.result c.requires.log c.read-log.ensures c.requires.more)
 
-pub overflow-add-state : goal.overflow-add-state
-overflow-add-state c = omega (arith, back_can c.args.u.now c.read-log.result c.requires.log c.read-log.ensures c.requires.more)
+pub overflow_add-state : goal.overflow_add-state
+overflow_add-state c = omega (arith, back_can c.args.u.now c.read-log.result c.requires.log c.read-log.ensures c.requires.more)
 
-pub overflow-sub-state-2 : goal.overflow-sub-state-2
-overflow-sub-state-2 c = omega (arith, back_can c.args.u.now c.read-log.result c.requires.log c.read-log.ensures c.requires.more)
+pub overflow_sub-state-2 : goal.overflow_sub-state-2
+overflow_sub-state-2 c = omega (arith, back_can c.args.u.now c.read-log.result c.requires.log c.read-log.ensures c.requires.more)
 
-pub overflow-add-state-2 : goal.overflow-add-state-2
-overflow-add-state-2 c = omega (arith, back_can c.args.u.now c.read-log.result c.requires.log c.read-log.ensures c.requires.more)
+pub overflow_add-state-2 : goal.overflow_add-state-2
+overflow_add-state-2 c = omega (arith, back_can c.args.u.now c.read-log.result c.requires.log c.read-log.ensures c.requires.more)
 
 pub returns : goal.returns
 returns c =

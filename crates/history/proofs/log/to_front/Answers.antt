@@ -10,11 +10,11 @@ returns c =
     let b : 16 + c.read-log.result.end ≤ length c.args.u.now = omega (arith, w.inside, c.read-log.ensures) in
     record {
       stays =
-          front-stays c.args.u.now c.copy-within.new.self c.write.new.u c.read-log.result c.read-log.ensures a b
-          c.copy-within.ensures.after c.write.ensures.rest (omega (arith, c.write.auto.u, c.copy-within.ensures.len)) c.write.ensures.head;
+          front-stays c.args.u.now c.copy_within.new.self c.write.new.u c.read-log.result c.read-log.ensures a b
+          c.copy_within.ensures.after c.write.ensures.rest (omega (arith, c.write.auto.u, c.copy_within.ensures.len)) c.write.ensures.head;
       front = c.write.ensures.head.start;
       rest =
           λ n h.
-          front_rest c.args.u.now c.copy-within.new.self c.write.new.u c.read-log.result c.read-log.ensures a b
-          c.copy-within.ensures.after c.write.ensures.rest (omega (arith, c.write.auto.u, c.copy-within.ensures.len)) n (omega (arith, h, c.read-log.ensures));
+          front_rest c.args.u.now c.copy_within.new.self c.write.new.u c.read-log.result c.read-log.ensures a b
+          c.copy_within.ensures.after c.write.ensures.rest (omega (arith, c.write.auto.u, c.copy_within.ensures.len)) n (omega (arith, h, c.read-log.ensures));
     }

@@ -4,7 +4,7 @@ use Rattle.text.specs.Lines.{stop, letters_in}
 use Rattle.text.specs.declared.reader.Mark.TheVariants.{Letter, Backslash, Quote, Wrong}
 use Rattle.text.proofs.Steps.{letters_next, letters_short}
 use Rattle.text.proofs.reader.letters.Goals as goal
-use Rattle.text.proofs.reader.letters.Goals.{in-Letter+in-ok-push, in-Backslash}
+use Rattle.text.proofs.reader.letters.Goals.{in-Letter+in_ok-push-in-Letter, in-Backslash}
 
 pub returns-in-Quote : goal.returns-in-Quote
 returns-in-Quote c =
@@ -17,9 +17,9 @@ returns-in-Wrong c =
 pub loop-i-preserved : goal.loop-i-preserved
 loop-i-preserved c =
     elim c.match-meaning.branch [
-      | in-Letter+in-ok-push w ↦
+      | in-Letter+in_ok-push-in-Letter w ↦
           let step = letters_next c.loop-i.escaped (vec_items c.loop-i.text) c.args.line.now c.loop-i.i (Letter w.in-Letter.x) c.loop-i-test.true w.in-Letter.ensures in
-          let items = pushed (w.in-Letter.x ∷ []) refl w.in-ok-push.was w.push.ensures.items in
+          let items = pushed (w.in-Letter.x ∷ []) refl w.in_ok-push-in-Letter.was w.push.ensures.items in
           cc (step, items, w.text-is, w.escaped-is, c.loop-i.invariant)
       | in-Backslash w ↦
           let step = letters_next c.loop-i.escaped (vec_items c.loop-i.text) c.args.line.now c.loop-i.i Backslash c.loop-i-test.true w.in-Backslash.ensures in

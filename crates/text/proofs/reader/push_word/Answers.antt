@@ -6,5 +6,5 @@ pub returns : goal.returns
 returns c =
     let small : c.args.n < 2 ^ 32 = omega arith in
     let old = vec_items c.args.out.now in
-    c.extend-from-slice.ensures.items
-    ∙ ap (λ w. cond (is_ok c.extend-from-slice.result) (old ++ w) old) (c.to-le-bytes.ensures ∙ word_is c.args.n small)
+    c.extend_from_slice.ensures.items
+    ∙ ap (λ w. cond (is_ok c.extend_from_slice.result) (old ++ w) old) (c.to_le_bytes.ensures ∙ word_is c.args.n small)

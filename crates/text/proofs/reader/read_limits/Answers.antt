@@ -3,17 +3,17 @@ use Rattle.text.proofs.Whole.{limits-stop, limits-over, limits-whole}
 use Rattle.std.proofs.Common.{take}
 use Rattle.text.proofs.reader.read_limits.Goals as goal
 
-pub returns-in-err-numbers : goal.returns-in-err-numbers
-returns-in-err-numbers c =
-    let p = err_from_is_err_and c.from-residual.result c.from-residual.ensures.1 in
-    let q = c.in-err-numbers.ensures in
-    rw (p.1, p.2) (limits-stop c.args.line.now c.in-err-numbers.field-0.0 q.1 q.0)
+pub returns-in_err-numbers : goal.returns-in_err-numbers
+returns-in_err-numbers c =
+    let p = err_from_is_err_and c.from_residual.result c.from_residual.ensures.1 in
+    let q = c.in_err-numbers.ensures in
+    rw (p.1, p.2) (limits-stop c.args.line.now c.in_err-numbers.field-0.0 q.1 q.0)
 
 pub returns-then-at-line : goal.returns-then-at-line
 returns-then-at-line c =
-    limits-over c.args.line.now c.in-ok-numbers.at (take 3 c.in-ok-numbers.numbers) c.if-at-line.true c.in-ok-numbers.ensures.0
+    limits-over c.args.line.now c.in_ok-numbers.at (take 3 c.in_ok-numbers.numbers) c.if-at-line.true c.in_ok-numbers.ensures.0
 
 pub returns : goal.returns
 returns c =
-    let q = c.in-ok-numbers.ensures in
-    limits-whole c.args.line.now c.in-ok-numbers.at c.in-ok-numbers.numbers c.if-at-line.false q.2 q.0
+    let q = c.in_ok-numbers.ensures in
+    limits-whole c.args.line.now c.in_ok-numbers.at c.in_ok-numbers.numbers c.if-at-line.false q.2 q.0

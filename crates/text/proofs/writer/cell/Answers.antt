@@ -14,6 +14,6 @@ pub returns : goal.returns
 returns c = (
   cell-whole (vec_items c.args.out.now) c.args.bytes.now c.args.at c.if-bytes-at-lt16.false c.word-letter.result c.word-letter.ensures
       c.word.result c.word-2.result c.word.ensures c.word-2.ensures c.if-letter-gt255.false
-      ∙ ap (λ ls. got ls (drop (c.args.at + 16) c.args.bytes.now)) (sym c.in-ok-push-cell.ensures),
+      ∙ ap (λ ls. got ls (drop (c.args.at + 16) c.args.bytes.now)) (sym c.in_ok-push_cell.ensures),
   omega arith,
 )

@@ -9,6 +9,6 @@ returns-then-bytes-at-lt4 c = (number_short (vec_items c.args.out.now) c.args.by
 pub returns : goal.returns
 returns c = (
   number-whole (vec_items c.args.out.now) c.args.bytes.now c.args.at c.word.result c.if-bytes-at-lt4.false c.word.ensures
-      ∙ ap (λ ls. got ls (drop (c.args.at + 4) c.args.bytes.now)) (sym c.in-ok-push-number.ensures),
+      ∙ ap (λ ls. got ls (drop (c.args.at + 4) c.args.bytes.now)) (sym c.in_ok-push_number.ensures),
   omega arith,
 )

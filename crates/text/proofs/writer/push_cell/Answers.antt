@@ -7,9 +7,9 @@ pub returns : goal.returns
 returns c =
     let line = vec_items c.args.out.now in
     let l = c.args.letter in
-    c.in-ok-push.ensures.items
-    ∙ (ap (λ ls. ls ++ (l ∷ [])) c.in-ok-extend-from-slice-2.ensures.items
-    ∙ (ap (λ ls. (ls ++ c.escape-of.result.now) ++ (l ∷ [])) c.in-ok-extend-from-slice.ensures.items
-    ∙ (ap (λ ls. ((line ++ ls) ++ c.escape-of.result.now) ++ (l ∷ [])) c.mark-of.ensures
-    ∙ (ap (λ ls. ((line ++ mark_line c.args.put-in c.args.struck) ++ ls) ++ (l ∷ [])) c.escape-of.ensures
-    ∙ cell_parts line (mark_line c.args.put-in c.args.struck) (escape_line l) l))))
+    c.in_ok-push.ensures.items
+    ∙ (ap (λ ls. ls ++ (l ∷ [])) c.in_ok-extend_from_slice-2.ensures.items
+    ∙ (ap (λ ls. (ls ++ c.escape_of.result.now) ++ (l ∷ [])) c.in_ok-extend_from_slice.ensures.items
+    ∙ (ap (λ ls. ((line ++ ls) ++ c.escape_of.result.now) ++ (l ∷ [])) c.mark_of.ensures
+    ∙ (ap (λ ls. ((line ++ mark_line c.args.put_in c.args.struck) ++ ls) ++ (l ∷ [])) c.escape_of.ensures
+    ∙ cell_parts line (mark_line c.args.put_in c.args.struck) (escape_line l) l))))

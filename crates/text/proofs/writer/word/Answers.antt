@@ -1,4 +1,4 @@
 use Rattle.text.proofs.writer.word.Goals as goal
 
 pub returns : goal.returns
-returns c = c.from-le-bytes.ensures
+returns c = c.from_le_bytes.ensures
