@@ -5,8 +5,8 @@ use Rattle.layout.proofs.Spots.{left-seen, left-unseen, left_next, left_end, lef
 use Rattle.layout.proofs.count.Goals as goal
 use Rattle.layout.proofs.count.Goals.{then-sees, else-sees}
 
-pub overflow-add-n : goal.overflow-add-n
-overflow-add-n c = let f = left_few c.args.c.now c.args.p.now c.args.s c.args.way 0 0 c.requires.store.table.order in let i = c.loop-j.invariant in omega arith
+pub overflow_add-n : goal.overflow_add-n
+overflow_add-n c = let f = left_few c.args.c.now c.args.p.now c.args.s c.args.way 0 0 c.requires.store.table.order in let i = c.loop-j.invariant in omega arith
 
 pub loop-j-preserved : goal.loop-j-preserved
 loop-j-preserved c =

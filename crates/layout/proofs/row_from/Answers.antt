@@ -44,7 +44,7 @@ returns-then-long-width c =
       | then-x-eq-SPACE v ↦ inl (v.if-x-eq-SPACE.true, v.space-is)
       | else-x-eq-SPACE v ↦ inr (v.if-x-eq-SPACE.false, v.space-is)
     ])
-    c.unwrap-or.result c.unwrap-or.ensures
+    c.unwrap_or.result c.unwrap_or.ensures
 
 pub returns-then-long-eq0 : goal.returns-then-long-eq0
 returns-then-long-eq0 c = let h : c.loop-k.k ≡ c.args.s = omega arith in sought-none _ _ _ _ _ _ _ _ _ _ c.loop-k.invariant.0 h c.if-long-eq0.true

@@ -6,4 +6,4 @@ pub returns-then-change-eq4294967295 : goal.returns-then-change-eq4294967295
 returns-then-change-eq4294967295 c = λ e. absurd (true_false e)
 
 pub returns : goal.returns
-returns c = rw add-one at c.may-have.ensures.lacks
+returns c = rw add-one at c.may_have.ensures.lacks

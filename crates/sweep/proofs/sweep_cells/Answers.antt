@@ -13,7 +13,7 @@ loop-i-init c = (omega arith, refl, kept_none c.args.c.now c.args.at)
 pub loop-i-preserved : goal.loop-i-preserved
 loop-i-preserved c =
     let inv = c.loop-i.invariant in
-    let e = c.sweep-cell-stay.ensures in
-    let s = swept_step c.args.c.now c.loop-i.c c.sweep-cell-stay.new.c c.args.at c.loop-i.i c.loop-i.stay c.sweep-cell-stay.result
+    let e = c.sweep_cell-stay.ensures in
+    let s = swept_step c.args.c.now c.loop-i.c c.sweep_cell-stay.new.c c.args.at c.loop-i.i c.loop-i.stay c.sweep_cell-stay.result
     c.args.action (changes_of c.args.changes.now c.args.row) inv.0 e.behind inv.1 inv.2 e.cells e.kept in
     (e.behind, s.0, s.1)

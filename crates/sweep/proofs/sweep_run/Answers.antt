@@ -27,16 +27,16 @@ used-requires c =
     let inv = c.loop-left.invariant in
     simp take_rest record { leaf = omega (arith, c.locate-spot.ensures.here, inv.0.table.order.most); words = past_tree (drop c.args.at.tables c.loop-left.w) c.args.at.slots inv.0.table.order }
 
-pub overflow-sub-has : goal.overflow-sub-has
-overflow-sub-has c =
+pub overflow_sub-has : goal.overflow_sub-has
+overflow_sub-has c =
     let p = drop c.args.at.tables c.loop-left.w in
     let is : c.used.result ≡ used p c.locate-spot.result.piece = simp take_rest at c.used.ensures in
     let found : Located p c.args.at.slots c.loop-left.next c.locate-spot.result.piece c.locate-spot.result.offset = simp take_rest at c.locate-spot.ensures in
     let w = found.within in
     omega arith
 
-pub sweep-piece-next-requires : goal.sweep-piece-next-requires
-sweep-piece-next-requires c =
+pub sweep_piece-next-requires : goal.sweep_piece-next-requires
+sweep_piece-next-requires c =
     let inv = c.loop-left.invariant in
     let p = drop c.args.at.tables c.loop-left.w in
     let is : c.used.result ≡ used p c.locate-spot.result.piece = simp take_rest at c.used.ensures in
@@ -44,10 +44,10 @@ sweep-piece-next-requires c =
     let w = found.within in
     record { store = inv.0; here = found.here; within = omega arith; row = c.requires.row; long = omega (arith, inv.5, c.requires.long); mark = c.requires.mark }
 
-pub overflow-add-next : goal.overflow-add-next
-overflow-add-next c =
+pub overflow_add-next : goal.overflow_add-next
+overflow_add-next c =
     let store = c.loop-left.invariant.0 in
-    let few = c.sweep-piece-next.ensures.few in
+    let few = c.sweep_piece-next.ensures.few in
     let small = before_small (drop c.args.at.tables c.loop-left.w) c.args.at.slots store.table.order c.args.at.slots (omega arith) in
     let most = store.table.order.most in
     omega (arith, c.loop-left.invariant.2)
@@ -57,9 +57,9 @@ loop-left-preserved c =
     let inv = c.loop-left.invariant in
     let t = c.args.at.tables in
     let p = drop t c.loop-left.w in
-    let q = drop t c.sweep-piece-next.new.w in
+    let q = drop t c.sweep_piece-next.new.w in
     let s = c.args.at.slots in
-    let e = c.sweep-piece-next.ensures in
+    let e = c.sweep_piece-next.ensures in
     let k = c.locate-spot.result.piece in
     let o = c.locate-spot.result.offset in
     let m = c.min-m.result in
@@ -69,14 +69,14 @@ loop-left-preserved c =
     let found : Located p s c.loop-left.next k o = simp take_rest at c.locate-spot.ensures in
     let w = found.within in
     let fits : o + m ≤ used p k = omega arith in
-    let step = run_step c.loop-left.c p c.sweep-piece-next.new.c q s c.loop-left.next k o m c.loop-left.left
-    c.sweep-piece-next.result c.args.action cs found (omega arith) fits inv.2 (rw row at e.changed) (rw row at e.left) in (
+    let step = run_step c.loop-left.c p c.sweep_piece-next.new.c q s c.loop-left.next k o m c.loop-left.left
+    c.sweep_piece-next.result c.args.action cs found (omega arith) fits inv.2 (rw row at e.changed) (rw row at e.left) in (
       e.store,
-      frame_both c.args.c.now (drop t c.args.w.now) c.loop-left.c p c.sweep-piece-next.new.c q s inv.1 e.changed.frame,
+      frame_both c.args.c.now (drop t c.args.w.now) c.loop-left.c p c.sweep_piece-next.new.c q s inv.1 e.changed.frame,
       step.0,
       step.1 ∙ inv.3,
       e.head ∙ inv.4,
-      c.sweep-piece-next.auto.w ∙ inv.5,
+      c.sweep_piece-next.auto.w ∙ inv.5,
     )
 
 pub returns : goal.returns

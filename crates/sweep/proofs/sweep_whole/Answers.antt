@@ -22,13 +22,13 @@ pub used-has-requires : goal.used-has-requires
 used-has-requires c =
     simp take_rest record { leaf = omega (arith, c.requires.here, c.requires.store.table.order.most); words = past_tree (drop c.args.at.tables c.args.w.now) c.args.at.slots c.requires.store.table.order }
 
-pub sweep-piece-requires : goal.sweep-piece-requires
-sweep-piece-requires c =
+pub sweep_piece-requires : goal.sweep_piece-requires
+sweep_piece-requires c =
     let is : c.used-has.result ≡ used (drop c.args.at.tables c.args.w.now) c.args.k = simp take_rest at c.used-has.ensures in
     record { store = c.requires.store; here = c.requires.here; within = omega arith; row = c.requires.row; long = c.requires.long; mark = c.requires.mark }
 
 pub remark-requires : goal.remark-requires
-remark-requires c = record { store = c.sweep-piece.ensures.store; here = c.requires.here; long = omega (arith, c.sweep-piece.auto.w, c.requires.long) }
+remark-requires c = record { store = c.sweep_piece.ensures.store; here = c.requires.here; long = omega (arith, c.sweep_piece.auto.w, c.requires.long) }
 
 pub returns : goal.returns
 returns c =
@@ -36,18 +36,18 @@ returns c =
     let s = c.args.at.slots in
     let k = c.args.k in
     let old = c.args.c.now in
-    let new = c.sweep-piece.new.c in
+    let new = c.sweep_piece.new.c in
     let p = drop t c.args.w.now in
-    let q = drop t c.sweep-piece.new.w in
+    let q = drop t c.sweep_piece.new.w in
     let r = drop t c.remark.new.w in
     let is : c.used-has.result ≡ used p k = simp take_rest at c.used-has.ensures in
     let all = swept-run-all c.args.action (changes_of (drop 16 c.args.w.now) c.args.at.row) (piece old p k) c.used-has.result (length_piece old p k ∙ sym is) in
-    let h = c.sweep-piece.ensures.changed in
+    let h = c.sweep_piece.ensures.changed in
     let e = c.remark.ensures in
     record {
-      frame = frame_both old p new q new r s h.frame (beside-edited new q r s c.sweep-piece.ensures.store e.beside e.store).frame;
+      frame = frame_both old p new q new r s h.frame (beside-edited new q r s c.sweep_piece.ensures.store e.beside e.store).frame;
       swept = beside_piece new q r s k h.order e.beside c.requires.here ∙ h.here ∙ all;
       others = λ j l ne. beside_piece new q r s j h.order e.beside l ∙ h.others j l ne;
       store = e.store;
-      head = e.head ∙ c.sweep-piece.ensures.head;
+      head = e.head ∙ c.sweep_piece.ensures.head;
     }

@@ -11,6 +11,6 @@ loop-k-init c = (refl, omega arith)
 pub loop-k-preserved : goal.loop-k-preserved
 loop-k-preserved c =
     let inv = c.loop-k.invariant in
-    let e = c.touched-piece-count.ensures in
+    let e = c.touched_piece-count.ensures in
     let few = e.few in
-    (touched_next c.args.c.now c.args.p.now c.loop-k.k c.args.change c.loop-k.count c.touched-piece-count.result e.count inv.0, omega arith)
+    (touched_next c.args.c.now c.args.p.now c.loop-k.k c.args.change c.loop-k.count c.touched_piece-count.result e.count inv.0, omega arith)

@@ -3,7 +3,7 @@ use Rattle.model.specs.Paper.{touched}
 use Rattle.slots.specs.Cells.{cells_at}
 use Rattle.sweep.proofs.Marks.{mark_in, touched_with, touched_without}
 use Rattle.sweep.proofs.touched_cells.Goals as goal
-use Rattle.sweep.proofs.touched_cells.Goals.{then-is-touched, else-is-touched}
+use Rattle.sweep.proofs.touched_cells.Goals.{then-is_touched, else-is_touched}
 
 pub loop-i-init : goal.loop-i-init
 unfolding cells_at touched
@@ -12,10 +12,10 @@ loop-i-init c = (refl, omega arith)
 pub loop-i-preserved : goal.loop-i-preserved
 loop-i-preserved c =
     let inv = c.loop-i.invariant in
-    let test = sym (ap (λ x. mark_in x c.args.change) c.read.ensures) ∙ sym c.is-touched.ensures in
-    elim c.if-is-touched.branch [
-      | then-is-touched w ↦
-          (w.count-is ∙ touched_with c.args.c.now c.args.at c.loop-i.i c.args.change c.loop-i.count (test ∙ w.if-is-touched.true) inv.0, omega (arith, w.count-is))
-      | else-is-touched w ↦
-          (w.count-is ∙ touched_without c.args.c.now c.args.at c.loop-i.i c.args.change c.loop-i.count (test ∙ w.if-is-touched.false) inv.0, omega (arith, w.count-is))
+    let test = sym (ap (λ x. mark_in x c.args.change) c.read.ensures) ∙ sym c.is_touched.ensures in
+    elim c.if-is_touched.branch [
+      | then-is_touched w ↦
+          (w.count-is ∙ touched_with c.args.c.now c.args.at c.loop-i.i c.args.change c.loop-i.count (test ∙ w.if-is_touched.true) inv.0, omega (arith, w.count-is))
+      | else-is_touched w ↦
+          (w.count-is ∙ touched_without c.args.c.now c.args.at c.loop-i.i c.args.change c.loop-i.count (test ∙ w.if-is_touched.false) inv.0, omega (arith, w.count-is))
     ]
