@@ -22,7 +22,7 @@ returns-in-Ok c =
     record {
       called =
           called cs ps us c.args.bytes.now c.serve.new.cells c.serve.new.pieces (take r c.serve.new.answer) m c.in-Ok.ensures.0 c.requires.sound.undo_long
-          c.serve.ensures.acted parts.0 (λ i. (c.type-inv.cells i).fits, λ i. (c.type-inv.pieces i).fits, λ i. (c.type-inv.undo i).fits);
+          c.serve.ensures.acted parts.0 (λ i. (c.type_inv.cells i).fits, λ i. (c.type_inv.pieces i).fits, λ i. (c.type_inv.undo i).fits);
       within = first_within bs c.args.answer.now c.serve.new.answer r c.serve.ensures.bytes c.serve.ensures.long c.serve.auto.answer;
       rest = parts.1;
     }
@@ -36,13 +36,13 @@ returns-in-Err c =
     let i = c.in-Err.at in
     let bs = answer_bytes (refused 1 (min i 4294967295)) in
     let out = c.write.new.out in
-    let bytes : out ≡ bs ++ drop r c.args.answer.now = rw c.told-place.ensures at c.write.ensures.bytes in
-    let long : r ≡ length bs = rw c.told-place.ensures at c.write.ensures.long in
+    let bytes : out ≡ bs ++ drop r c.args.answer.now = rw c.told_place.ensures at c.write.ensures.bytes in
+    let long : r ≡ length bs = rw c.told_place.ensures at c.write.ensures.long in
     let parts : (take r out ≡ bs) × (drop r out ≡ drop r c.args.answer.now) = first_bytes bs c.args.answer.now out r bytes long in
     record {
       called =
           not_called cs ps us c.args.bytes.now (take r out) i c.in-Err.ensures.0 c.requires.sound parts.0
-          (λ k. (c.type-inv.cells k).fits, λ k. (c.type-inv.pieces k).fits, λ k. (c.type-inv.undo k).fits);
+          (λ k. (c.type_inv.cells k).fits, λ k. (c.type_inv.pieces k).fits, λ k. (c.type_inv.undo k).fits);
       within = first_within bs c.args.answer.now out r bytes long c.write.auto.out;
       rest = parts.1;
     }

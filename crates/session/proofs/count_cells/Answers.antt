@@ -4,7 +4,7 @@ use Rattle.session.specs.Memory.{slots_of}
 use Rattle.session.proofs.count_cells.Goals as goal
 
 pub count-requires : goal.count-requires
-count-requires c = let slots : c.slots-for-slots.result ≡ slots_of c.args.pieces.now = c.slots-for-slots.ensures.slots in rw (take_rest, slots) c.requires.table
+count-requires c = let slots : c.slots_for-slots.result ≡ slots_of c.args.pieces.now = c.slots_for-slots.ensures.slots in rw (take_rest, slots) c.requires.table
 
 pub returns : goal.returns
-returns c = let slots : c.slots-for-slots.result ≡ slots_of c.args.pieces.now = c.slots-for-slots.ensures.slots in rw (take_rest, slots) at c.count.ensures
+returns c = let slots : c.slots_for-slots.result ≡ slots_of c.args.pieces.now = c.slots_for-slots.ensures.slots in rw (take_rest, slots) at c.count.ensures

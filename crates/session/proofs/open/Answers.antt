@@ -32,6 +32,6 @@ returns c =
         pieces = pieces_are n m u ps begun c.clear.new.p c.begin.ensures clears;
         undo = refl;
         stands = stands n m u ps begun c.clear.new.p c.begin.ensures clears c.clear.new.c us small_n small-m small-u (omega arith) long-ps store empty;
-        fit = (λ i. (c.type-inv.cells i).fits, λ i. (c.type-inv.pieces i).fits, λ i. (c.type-inv.undo i).fits);
+        fit = (λ i. (c.type_inv.cells i).fits, λ i. (c.type_inv.pieces i).fits, λ i. (c.type_inv.undo i).fits);
       },
     )

@@ -21,12 +21,12 @@ show-requires c =
 pub act-short-requires : goal.act-short-requires
 act-short-requires c =
     let good : good_fields (meaning c.args.call c.args.letters.now) ≡ true = sym (in_range_is c.args.call c.args.letters.now) ∙ sym c.if-not-within.ensures in
-    record { held = c.requires.held; good = good; short = not_shown c.args.call c.in-default.not-Show }
+    record { held = c.requires.held; good = good; short = not_shown c.args.call c.in_default.not-Show }
 
 pub returns-in-Show : goal.returns-in-Show
 returns-in-Show c = rw c.in-Show.is c.show.ensures
 
-pub returns-in-default : goal.returns-in-default
-returns-in-default c =
+pub returns-in_default : goal.returns-in_default
+returns-in_default c =
     said c.args.cells.now c.args.pieces.now (meaning c.args.call c.args.letters.now) c.act-short.new.cells c.act-short.new.pieces
-    c.args.answer.now c.write-in-default.new.out c.write-in-default.result (told c.act-short.result) c.act-short.ensures c.write-in-default.ensures.bytes c.write-in-default.ensures.long
+    c.args.answer.now c.write-in_default.new.out c.write-in_default.result (told c.act-short.result) c.act-short.ensures c.write-in_default.ensures.bytes c.write-in_default.ensures.long

@@ -8,39 +8,39 @@ use Rattle.session.proofs.Putting.{still}
 use Rattle.session.proofs.Striking.{allowed_more, cells_there, strike-done, strike-nowhere, strike-too-much}
 use Rattle.session.proofs.deciding.strike.Goals as goal
 
-pub returns-in-default : goal.returns-in-default
-returns-in-default c =
+pub returns-in_default : goal.returns-in_default
+returns-in_default c =
     let ps = c.args.pieces.now in
-    let h : leb (c.args.place + c.args.count) (before (tables ps) (slots_of ps)) ≡ false = rw c.count-cells-total.ensures at c.in-default.ensures in
+    let h : leb (c.args.place + c.args.count) (before (tables ps) (slots_of ps)) ≡ false = rw c.count_cells-total.ensures at c.in_default.ensures in
     strike-nowhere c.args.cells.now ps c.requires.held c.args.author c.args.place c.args.count c.requires.good h
 
-pub returns-in-default-room : goal.returns-in-default-room
-returns-in-default-room c =
+pub returns-in_default-room : goal.returns-in_default-room
+returns-in_default-room c =
     let ps = c.args.pieces.now in
-    let h : leb (c.args.place + c.args.count) (before (tables ps) (slots_of ps)) ≡ true = rw c.count-cells-total.ensures at c.in-Some.ensures.1 in
-    let k : allows ps (before (tables ps) (slots_of ps)) ≡ false = rw c.count-cells-total.ensures at c.in-default-room.ensures in
+    let h : leb (c.args.place + c.args.count) (before (tables ps) (slots_of ps)) ≡ true = rw c.count_cells-total.ensures at c.in-Some.ensures.1 in
+    let k : allows ps (before (tables ps) (slots_of ps)) ≡ false = rw c.count_cells-total.ensures at c.in_default-room.ensures in
     strike-too-much c.args.cells.now ps c.requires.held c.args.author c.args.place c.args.count c.requires.good h k
 
-pub sweep-run-requires : goal.sweep-run-requires
-sweep-run-requires c =
+pub sweep_run-requires : goal.sweep_run-requires
+sweep_run-requires c =
     let cs = c.args.cells.now in
     let ps = c.args.pieces.now in
-    let inside : c.args.place + c.args.count ≤ c.count-cells-total.result = leb-true (c.args.place + c.args.count) c.count-cells-total.result c.in-Some.ensures.1 in
+    let inside : c.args.place + c.args.count ≤ c.count_cells-total.result = leb-true (c.args.place + c.args.count) c.count_cells-total.result c.in-Some.ensures.1 in
     let all = cells_there cs ps c.requires.held in
-    let less : get_or ps 3 0 < get_or ps 1 0 = allowed_more ps c.count-cells-total.result c.in-Some-room.ensures.1 in
+    let less : get_or ps 3 0 < get_or ps 1 0 = allowed_more ps c.count_cells-total.result c.in-Some-room.ensures.1 in
     record {
       held = c.requires.held;
-      within = omega (arith, c.in-Some.ensures.0, c.count-cells-total.ensures);
+      within = omega (arith, c.in-Some.ensures.0, c.count_cells-total.ensures);
       mark = omega (arith, c.in-Some-room.ensures.0, c.requires.held.few_changes);
     }
 
-pub add-change-requires : goal.add-change-requires
-add-change-requires c =
+pub add_change-requires : goal.add_change-requires
+add_change-requires c =
     let cs = c.args.cells.now in
     let ps = c.args.pieces.now in
-    let less : get_or ps 3 0 < get_or ps 1 0 = allowed_more ps c.count-cells-total.result c.in-Some-room.ensures.1 in
-    let same = still c.sweep-run.ensures in
-    record { room = omega (arith, same.0, same.1); few = c.sweep-run.ensures.held.few_changes; long = omega (arith, c.sweep-run.ensures.held.pieces_long) }
+    let less : get_or ps 3 0 < get_or ps 1 0 = allowed_more ps c.count_cells-total.result c.in-Some-room.ensures.1 in
+    let same = still c.sweep_run.ensures in
+    record { room = omega (arith, same.0, same.1); few = c.sweep_run.ensures.held.few_changes; long = omega (arith, c.sweep_run.ensures.held.pieces_long) }
 
 pub returns : goal.returns
 returns c =
@@ -50,8 +50,8 @@ returns c =
     let n = c.args.count in
     let at : c.in-Some.at ≡ i = c.in-Some.ensures.0 in
     let number : c.in-Some-room.number ≡ get_or ps 3 0 = c.in-Some-room.ensures.0 in
-    let h : leb (i + n) (before (tables ps) (slots_of ps)) ≡ true = rw c.count-cells-total.ensures at c.in-Some.ensures.1 in
-    let k : allows ps (before (tables ps) (slots_of ps)) ≡ true = rw c.count-cells-total.ensures at c.in-Some-room.ensures.1 in
-    let wrote : Wrote cs ps c.sweep-run.new.cells c.sweep-run.new.pieces (with_cells (paper_of cs ps) (swept_run (Strike c.args.author (get_or ps 3 0)) (row_of ps) (paper_of cs ps).cells i n)) =
-    rw (at, number) at c.sweep-run.ensures in
-    rw number (strike-done cs ps c.requires.held c.args.author i n c.requires.good c.sweep-run.new.cells c.sweep-run.new.pieces c.add-change.new.pieces h k wrote c.add-change.ensures)
+    let h : leb (i + n) (before (tables ps) (slots_of ps)) ≡ true = rw c.count_cells-total.ensures at c.in-Some.ensures.1 in
+    let k : allows ps (before (tables ps) (slots_of ps)) ≡ true = rw c.count_cells-total.ensures at c.in-Some-room.ensures.1 in
+    let wrote : Wrote cs ps c.sweep_run.new.cells c.sweep_run.new.pieces (with_cells (paper_of cs ps) (swept_run (Strike c.args.author (get_or ps 3 0)) (row_of ps) (paper_of cs ps).cells i n)) =
+    rw (at, number) at c.sweep_run.ensures in
+    rw number (strike-done cs ps c.requires.held c.args.author i n c.requires.good c.sweep_run.new.cells c.sweep_run.new.pieces c.add_change.new.pieces h k wrote c.add_change.ensures)
