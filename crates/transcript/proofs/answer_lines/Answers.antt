@@ -3,24 +3,24 @@ use Rattle.std.proofs.lemmas.Result.{err_from_is_err_and}
 use Rattle.transcript.proofs.Serving.{going_more, going_all, going_lacks}
 use Rattle.transcript.proofs.answer_lines.Goals as goal
 
-pub returns-in-err-answer-line : goal.returns-in-err-answer-line
-returns-in-err-answer-line c =
+pub returns-in_err-answer_line : goal.returns-in_err-answer_line
+returns-in_err-answer_line c =
     λ d reached stands.
-    let p = err_from_is_err_and c.from-residual.result c.from-residual.ensures.1 in
+    let p = err_from_is_err_and c.from_residual.result c.from_residual.ensures.1 in
     rw (p.1, p.2)
     (going_lacks c.args.cells.now c.args.pieces.now c.args.undo.now c.args.file.now (vec_items c.args.out.now) c.loop-line.cells c.loop-line.pieces
     c.loop-line.undo c.loop-line.rest.now (vec_items c.loop-line.out) c.in-Some.line.now c.answer_line.new.cells c.answer_line.new.pieces
-    c.answer_line.new.undo (vec_items c.answer_line.new.out) c.answer_line.result c.in-err-answer-line.field-0.0 c.in-err-answer-line.was c.loop-line.invariant
+    c.answer_line.new.undo (vec_items c.answer_line.new.out) c.answer_line.result c.in_err-answer_line.field-0.0 c.in_err-answer_line.was c.loop-line.invariant
     c.answer_line.ensures d reached stands)
 
 pub loop-line-preserved : goal.loop-line-preserved
 loop-line-preserved c =
     going_more c.args.cells.now c.args.pieces.now c.args.undo.now c.args.file.now (vec_items c.args.out.now) c.loop-line.cells c.loop-line.pieces
     c.loop-line.undo c.loop-line.rest.now (vec_items c.loop-line.out) c.in-Some.line.now c.answer_line.new.cells c.answer_line.new.pieces
-    c.answer_line.new.undo c.in-Some.after.now (vec_items c.answer_line.new.out) c.answer_line.result c.in-ok-answer-line.field-0
-    c.in-ok-answer-line.was c.loop-line.invariant c.in-Some.ensures.0 c.answer_line.ensures
+    c.answer_line.new.undo c.in-Some.after.now (vec_items c.answer_line.new.out) c.answer_line.result c.in_ok-answer_line.field-0
+    c.in_ok-answer_line.was c.loop-line.invariant c.in-Some.ensures.0 c.answer_line.ensures
 
 pub returns : goal.returns
 returns c =
     going_all c.args.cells.now c.args.pieces.now c.args.undo.now c.args.file.now (vec_items c.args.out.now) c.loop-line.cells c.loop-line.pieces
-    c.loop-line.undo c.loop-line.rest.now (vec_items c.loop-line.out) c.loop-line.invariant c.in-default.ensures
+    c.loop-line.undo c.loop-line.rest.now (vec_items c.loop-line.out) c.loop-line.invariant c.in_default.ensures

@@ -16,5 +16,5 @@ returns-in-None c =
 
 pub returns-in-Err : goal.returns-in-Err
 returns-in-Err c =
-    limits_cease (limits_reading c.args.first.now) c.in-Err.at c.told-place.result (call_lines c.args.file.now) (vec_items c.args.out.now) (vec_items c.refuse-in-Err.new.out)
-    c.refuse-in-Err.result c.in-Err.ensures c.told-place.ensures c.refuse-in-Err.ensures
+    limits_cease (limits_reading c.args.first.now) c.in-Err.at c.told_place.result (call_lines c.args.file.now) (vec_items c.args.out.now) (vec_items c.refuse-in-Err.new.out)
+    c.refuse-in-Err.result c.in-Err.ensures c.told_place.ensures c.refuse-in-Err.ensures
