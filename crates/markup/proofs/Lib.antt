@@ -1,2 +1,0 @@
-mod Leads
-mod Writes

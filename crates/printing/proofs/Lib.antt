@@ -1,5 +1,0 @@
-pub mod Joins
-pub mod Mapped
-mod Once
-mod Shown
-mod Texts

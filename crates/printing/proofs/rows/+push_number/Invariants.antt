@@ -1,4 +1,0 @@
-use Rattle.printing.proofs.rows.+push_number.Given as goal
-
-abbrev pub decreases-push-number : goal.decreases-push-number
-decreases-push-number l = l.n

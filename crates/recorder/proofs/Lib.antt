@@ -1,5 +1,0 @@
-mod Splices
-mod Sealing
-mod Entries
-mod Runs
-mod Marking

@@ -1,3 +1,0 @@
-mod Runs
-mod Marking
-mod Entries
