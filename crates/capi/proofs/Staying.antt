@@ -1,11 +1,11 @@
 -- Memory stays such as desk_call asks for. Assumes nothing.
-use Rattle.std.proofs.Common.{◌≡◌, ℕ, Bool, true, false, List, ℤ, pos, negsuc, Ok, Err, Result, sym, refl, ap, ◌∙◌, subst, arith}
+use Rattle.std.proofs.Common.{◌≡◌, ℕ, Bool, true, false, List, ℤ, pos, Ok, Err, Result, ap, ◌∙◌, arith}
 use Rattle.model.specs.Paper.{pick}
 use Rattle.session.specs.Memory.{Sound}
 use Rattle.session.specs.Contract.{Opening, good_limits}
 use Rattle.session.specs.declared.Refusal.{Refusal}
 use Rattle.std.proofs.lemmas.Int.{ints}
-use Rattle.capi.specs.Interface.{CallReturns, Callable, OpenReturns, StaysCallable, code, long_enough, open_told}
+use Rattle.capi.specs.Interface.{CallReturns, Callable, StaysCallable, code, open_told}
 
 not_opened : {P : Type 0} (b : Bool) → pos 0 ≡ code 3 (pick b 0 1) → P
 not_opened true e = absurd (omega (arith, ints))

@@ -1,4 +1,6 @@
 // The C interface: a slice is passed as a pointer and a length. include/desk.h tells what a caller has to know.
+#![tactic(auto)]
+
 ghost use Rattle.std.specs.Prelude.{◌≡◌, ◌≤◌, ◌&&◌, length, nat_le};
 ghost use Rattle.capi.specs.Interface.{CallReturns, Callable, OpenReturns, StaysCallable, code, long_enough, words_told};
 ghost use Rattle.session.specs.Contract.{good_limits};

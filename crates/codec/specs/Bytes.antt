@@ -1,7 +1,7 @@
 -- Calls and answers as bytes. A call is a byte that says which, and its fields, four bytes each, low byte first; the letters of put and find
 -- come last, one byte each, with their count in the last field. An answer is a byte that says which of the five forms, and its numbers likewise.
 -- Definitions only: nothing is assumed.
-use Rattle.std.specs.Prelude.{ℕ, ◌+◌, ◌*◌, ◌/◌, ◌%◌, List, [], ◌∷◌, ◌++◌, length}
+use Rattle.std.specs.Prelude.{ℕ, ◌/◌, ◌%◌, List, [], ◌∷◌, ◌++◌, length}
 use Rattle.model.specs.Paper.{Cell}
 use Rattle.model.specs.Calls.{Call, put, strikes, accepts, rejects, styles, undo, redo, show, find, count, change, save, Answer, refused, number, two, lines, numbers}
 

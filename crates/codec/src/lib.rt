@@ -1,5 +1,7 @@
 // Calls and answers as bytes. A call is read whole; its letters stay where they are, as a part of the bytes. An answer of up to two
 // numbers is written at once; rows and rows of numbers are written piece by piece, each piece at a place of the lent bytes.
+#![tactic(auto)]
+
 ghost use Rattle.std.specs.Prelude.{◌≡◌, ℕ, ◌+◌, ◌<◌, ◌≤◌, List, [], ◌∷◌, ◌++◌, length, drop, Ok, Err, slice_index};
 ghost use Rattle.model.specs.Values.{cell_of};
 ghost use Rattle.codec.specs.Bytes.{word_bytes, words_bytes, cells_bytes, answer_bytes};

@@ -1,3 +1,5 @@
+#![tactic(auto)]
+
 // What some bytes read as, in a crate of its own since a crate with tests is proved twice.
 #[cfg(test)]
 mod tests {

@@ -1,4 +1,6 @@
 // The desk as a program: reads a file of calls from standard input, and writes the answers to standard output.
+#![tactic(auto)]
+
 use anyhow::anyhow;
 use std::io::{Read, Write};
 

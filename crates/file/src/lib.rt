@@ -1,4 +1,6 @@
 // A paper's file: the numbers in a text, and the paper that some numbers are.
+#![tactic(auto)]
+
 ghost use Rattle.std.specs.Prelude.{◌≡◌, ◌+◌, ◌-◌, ◌*◌, ◌<◌, ◌≤◌, false, length, Some, None, Ok, Err, MatchBool, slice_index, slice_index_or};
 ghost use Rattle.file.specs.Laws.{OneWay, ReadsBack, WordsAre};
 ghost use Rattle.file.specs.Paper.{Ceases, IsFile, paper_of};

@@ -1,5 +1,7 @@
 // Finding some letters in linear time (Knuth, Morris and Pratt), fed one letter at a time, so that a caller can walk over a text that
 // lies in pieces.
+#![tactic(auto)]
+
 ghost use Rattle.std.specs.Prelude.{◌≡◌, ◌<◌, ◌≤◌, length, drop};
 ghost use Rattle.finder.specs.Laws.{FullIsFound, UnfoundIsAbsent};
 ghost use Rattle.finder.specs.Match.{Step, Table};

@@ -4,7 +4,7 @@ use lib.Seq.{append_snoc}
 use Rattle.std.proofs.lemmas.Bool.{or_parts}
 use Rattle.std.proofs.lemmas.List.{length-append, length-take-le, length-drop, take-append-drop, take_at, drop_at, drop-drop, set_at, set-set, set-get_or, get_or_default, length_push, length-set, get_or-set_same}
 use Rattle.model.specs.Paper.{pick, Cell, Change, Paper, new_cells, strike, accept, reject, styled, author_of, touched}
-use Rattle.model.specs.Calls.{Call, put, strikes, accepts, rejects, styles, undo, redo, show, find, count, change, save, became, with_became, rewritten, how_much}
+use Rattle.model.specs.Calls.{Call, put, strikes, accepts, rejects, styles, undo, redo, show, find, count, change, save, with_became, rewritten, how_much}
 use Rattle.history.specs.Entry.{Mark, staying, marks_of, entry_of, call_of, much_of, run_back, mark_back, marks_back, goes_accepted, goes_rejected, but_last, undo_of, Can, Placed, UndoCan, UndoBringsBack, RedoDoesAgain, CountsAsMuch, UndoFinds}
 
 -- two papers with the same cells and the same changes

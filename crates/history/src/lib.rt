@@ -1,4 +1,6 @@
 // What can be undone and done again: not whole papers, but an entry for each call that wrote, and what holds of entries (specs/).
+#![tactic(auto)]
+
 ghost use Rattle.history.specs.Entry.{UndoBringsBack, RedoDoesAgain, CountsAsMuch, UndoFinds};
 ghost use Rattle.history.specs.Steps.{KeptRemembered, KeptWithin, KeptAll, KeptForgets, Opens, WriteSteps, UndoSteps, RedoSteps, UndoTurned, RedoTurned, TurnedKeeps, LookingKeeps, AlwaysStands};
 ghost use Rattle.history.specs.Words.{ReadsBack, OneEntry, EntryLong, LogLong, OneLog, LogBack, LogAhead, LogForgets, LogDrops, LogPushes, LogMoves};

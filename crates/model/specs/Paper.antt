@@ -1,6 +1,6 @@
 -- A paper on which several people write: a row of cells and a row of changes, and what each act does to the cells.
 -- Definitions only: nothing is assumed.
-use Rattle.std.specs.Prelude.{◌≡◌, ℕ, zero, suc, ◌+◌, ◌-◌, ◌*◌, ◌/◌, ◌<◌, ◌≤◌, Bool, true, false, not, ◌&&◌, ◌||◌, List, [], ◌∷◌, ◌++◌, length, ◌==◌, slice_index_or}
+use Rattle.std.specs.Prelude.{ℕ, zero, suc, ◌+◌, Bool, true, false, ◌||◌, List, [], ◌∷◌, ◌++◌, length, ◌==◌, slice_index_or}
 
 -- a if the test holds, else b
 abbrev pub pick : {A : Type 0} → Bool → A → A → A

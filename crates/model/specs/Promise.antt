@@ -1,8 +1,8 @@
 -- What is promised. Each of these is a statement: a type, whose proof stands on a function's contract. Nothing is assumed.
-use Rattle.std.specs.Prelude.{◌≡◌, ℕ, zero, suc, ◌+◌, ◌-◌, ◌*◌, ◌/◌, ◌<◌, ◌≤◌, Bool, true, false, not, ◌&&◌, ◌||◌, ◌≢◌, ◌⊎◌, List, [], ◌∷◌, ◌++◌, map, length, drop, ◌==◌, nat_le, nat_lt, slice_index, slice_index_or}
-use Rattle.model.specs.Paper.{pick, Cell, Change, Paper, accept, reject, view, letters, written}
-use Rattle.model.specs.Rows.{Cut, cut, rows, begins, find_in}
-use Rattle.model.specs.Calls.{Call, put, strikes, accepts, rejects, styles, undo, redo, show, find, count, change, save, Answer, number, Desk, Before, Limits, became, writes, rewritten, fits, turned, after, answer, answers, ran, new_desk}
+use Rattle.std.specs.Prelude.{◌≡◌, ℕ, zero, suc, ◌+◌, ◌*◌, ◌<◌, ◌≤◌, Bool, true, false, ◌&&◌, ◌||◌, ◌≢◌, ◌⊎◌, List, [], ◌∷◌, ◌++◌, length, drop, ◌==◌, nat_le, nat_lt, slice_index, slice_index_or}
+use Rattle.model.specs.Paper.{pick, Cell, Paper, accept, reject, view, letters, written}
+use Rattle.model.specs.Rows.{cut, rows, begins, find_in}
+use Rattle.model.specs.Calls.{Call, put, strikes, accepts, rejects, styles, undo, redo, show, find, count, change, save, Answer, Desk, Limits, writes, fits, turned, after, answers, ran, new_desk}
 
 abbrev pub GoodLimits : Limits → Type 0
 GoodLimits l = (l.cells ≤ 1000000) × (l.changes ≤ 65536) × (l.undos ≤ 1000000)

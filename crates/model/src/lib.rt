@@ -1,4 +1,5 @@
 // What a paper is on which several people write: the structs that the code passes around, and the laws of their meaning (specs/).
+#![tactic(auto)]
 
 pub mod changes;
 pub mod letters;

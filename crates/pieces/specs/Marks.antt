@@ -1,6 +1,6 @@
 -- The set of marks of a slot: two words. The mark m stands for bit m % 32 of the first and bit m / 32 % 32 of the second, so that a set which lacks one of
 -- the two bits does not have the mark. Mark 0 stands for none, and is in no set.
-use Rattle.std.specs.Prelude.{◌≡◌, ℕ, ◌+◌, ◌/◌, ◌%◌, ◌^◌, ◌<◌, Bool, ◌&&◌, ◌≢◌, List, [], ◌∷◌, length, drop, set, ◌==◌, bit_or, slice_index, slice_set}
+use Rattle.std.specs.Prelude.{◌≡◌, ℕ, ◌+◌, ◌/◌, ◌%◌, ◌^◌, ◌<◌, Bool, ◌&&◌, ◌≢◌, List, [], ◌∷◌, length, drop, ◌==◌, bit_or, slice_index, slice_set}
 use Rattle.model.specs.Paper.{pick, Cell}
 
 -- bit j of the word w is set

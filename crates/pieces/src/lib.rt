@@ -1,6 +1,8 @@
 // A paper's cells kept in pieces, over two lent slices of words: `c` has `s` slots of 1,024 cells, and `p` says in which order the slots stand (words 0
 // to 2047), how many cells each has (from word 2048 on, a tree of counts with 2,048 leaves) and which marks they may have (from word 6144 on, two words
 // a slot). Every slot is a piece of the text, an unused one has no cells. Words of `c` past the slots and words of `p` past 10240 are never touched.
+#![tactic(auto)]
+
 ghost use Rattle.std.specs.Prelude.{◌≡◌, ℕ, ◌+◌, ◌-◌, ◌*◌, ◌/◌, ◌<◌, ◌≤◌, false, ◌≢◌, List, [], ◌++◌, length, take, drop, set, replicate, slice_index_or, slice_set};
 ghost use Rattle.model.specs.Values.{cell_of};
 ghost use Rattle.std.specs.List.{range_with_len, AllByRecursion as All};

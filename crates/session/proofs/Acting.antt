@@ -1,8 +1,8 @@
 -- A call that is turned away, one that writes and one that only looks, at the desk that memory holds. Assumes nothing.
-use Rattle.std.proofs.Common.{◌≡◌, ℕ, zero, suc, ◌+◌, ◌<◌, Bool, true, false, ◌&&◌, eqb, List, [], ◌∷◌, ◌++◌, length, drop, sym, refl, ap, ◌∙◌, subst, arith, ne_eqb}
+use Rattle.std.proofs.Common.{◌≡◌, ℕ, suc, ◌<◌, Bool, true, false, eqb, List, sym, refl, ap, ◌∙◌, subst, arith, ne_eqb}
 use Rattle.model.specs.Paper.{pick, Paper}
-use Rattle.model.specs.Calls.{Call, Answer, refused, Desk, Limits, call_number, good_fields, good_call, turned_by, writes, rewritten, moved, changed, fits, turned, after, told, place, answer}
-use Rattle.session.specs.Memory.{stage, limits_of, paper_of, Held}
+use Rattle.model.specs.Calls.{Call, refused, Desk, Limits, good_call, turned_by, writes, rewritten, moved, changed, fits, turned, after, told, place, answer}
+use Rattle.session.specs.Memory.{limits_of, paper_of, Held}
 use Rattle.session.specs.Acts.{Wrote, desk_of, Acted}
 
 apart : (n : ℕ) → eqb (suc n) 0 ≡ false

@@ -1,11 +1,10 @@
 -- What writes to the head of the pieces, before the tables, leave. Assumes nothing.
-use Rattle.std.proofs.Common.{◌≡◌, ℕ, suc, ◌+◌, ◌-◌, ◌*◌, ◌<◌, ◌≤◌, ◌≢◌, List, [], ◌∷◌, ◌++◌, length, get_or, take, drop, set, sym, refl, ap, ◌∙◌, arith, get_or-set_other, get_or-set_same}
+use Rattle.std.proofs.Common.{◌≡◌, ℕ, ◌+◌, ◌-◌, ◌*◌, ◌<◌, ◌≤◌, ◌≢◌, List, [], ◌∷◌, ◌++◌, length, get_or, take, drop, set, sym, ap, ◌∙◌, arith, get_or-set_other, get_or-set_same}
 use borrow.Rule.Slice.PartMut.{put_mid}
 use Rattle.std.proofs.lemmas.List.{length-append, length-take-le, length-drop, length-set, drop_at, drop_all, drop-drop, drop-set-lt, append-nil, get_or_append_left, get_or-take}
-use Rattle.model.specs.Paper.{Change}
-use Rattle.model.specs.Calls.{Limits, with_became}
+use Rattle.model.specs.Calls.{with_became}
 use Rattle.changes.specs.Row.{changes_of}
-use Rattle.session.specs.Memory.{stage, limits_of, tables}
+use Rattle.session.specs.Memory.{limits_of, tables}
 use Rattle.session.specs.Acts.{Rowed, row_of}
 
 -- what was lent from place a on, to the end

@@ -1,8 +1,8 @@
 -- When a change is asked for or decided: why that is turned away, and what it leaves. Assumes nothing.
-use Rattle.std.proofs.Common.{◌≡◌, ℕ, suc, ◌+◌, ◌<◌, ◌≤◌, Bool, true, false, ◌&&◌, eqb, ltb, leb, List, length, get_or, drop, sym, refl, ap, ◌∙◌, subst, ap₂, zero-add, arith, le-ltb, lt-ltb, eq-eqb, ne_eqb, le-leb}
+use Rattle.std.proofs.Common.{◌≡◌, ℕ, suc, ◌<◌, ◌≤◌, true, false, ◌&&◌, eqb, ltb, leb, List, length, get_or, drop, sym, refl, ap, ◌∙◌, subst, ap₂, zero-add, arith, le-ltb, lt-ltb, eq-eqb, ne_eqb, le-leb}
 use Rattle.std.proofs.lemmas.List.{length-set}
 use Rattle.model.specs.Paper.{pick, Paper, Cell, Change, touched}
-use Rattle.model.specs.Calls.{Call, change, number, two, refused, call_number, good_fields, good_call, became, turned_by, with_became, writes, rewritten, moved, fits, turned, told, place}
+use Rattle.model.specs.Calls.{change, number, two, refused, call_number, good_fields, good_call, became, turned_by, with_became, writes, rewritten, moved, fits, turned, told, place}
 use Rattle.changes.specs.Row.{change_at}
 use Rattle.changes.proofs.Row.{change_in, length_changes}
 use Rattle.sweep.specs.Sweep.{swept}

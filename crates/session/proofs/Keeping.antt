@@ -1,14 +1,13 @@
 -- The main promise, from the contracts of open and call, which cite the model's own `after` and `answer`. Assumes nothing.
-use Rattle.std.proofs.Common.{◌≡◌, ℕ, zero, suc, ◌+◌, ◌*◌, ◌/◌, ◌<◌, ◌≤◌, Bool, true, false, ◌&&◌, ltb, List, [], ◌∷◌, ◌++◌, length, get_or, drop, sym, refl, ap, ◌∙◌, subst, ap₂, arith, lt-ltb}
+use Rattle.std.proofs.Common.{◌≡◌, ℕ, zero, suc, ◌+◌, ◌*◌, ◌<◌, ◌≤◌, Bool, true, false, ◌&&◌, ltb, List, [], ◌∷◌, ◌++◌, length, get_or, drop, sym, refl, ap, ◌∙◌, subst, ap₂, arith, lt-ltb}
 use Rattle.std.proofs.lemmas.List.{length-append}
-use Rattle.model.specs.Paper.{Paper}
-use Rattle.model.specs.Calls.{Call, Answer, Desk, Limits, turned, after, answer, answers, ran, new_desk}
+use Rattle.model.specs.Calls.{Call, Desk, Limits, turned, after, answer, answers, ran, new_desk}
 use Rattle.model.specs.Promise.{GoodLimits, readable, all_readable, all_below, Memory, Keeper, told_by, left_by, Right, EnoughMemory, RefusalKeeps}
-use Rattle.codec.specs.Bytes.{call_bytes, answer_bytes}
+use Rattle.codec.specs.Bytes.{answer_bytes}
 use Rattle.codec.specs.Reading.{Reading, reading, call_is, ceases}
 use Rattle.codec.specs.Laws.{ReadsBack, OneAnswer}
-use Rattle.session.specs.Memory.{stage, cells_words, pieces_words, undo_words, limits_of, paper_of, Sound, Stands, opened_pieces}
-use Rattle.session.specs.Contract.{Does, Done, Called, Fit, Opened}
+use Rattle.session.specs.Memory.{stage, pieces_words, limits_of, Stands, opened_pieces}
+use Rattle.session.specs.Contract.{Does, Done, Fit, Opened}
 use Rattle.session.specs.Keeping.{Holds, Opens, Calls, Meets, MainPromise, byte_answer, byte_after, bytes_answers, Chain, ends, goes, AnyChain, FromOpening}
 
 -- one link of a chain

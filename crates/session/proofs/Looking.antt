@@ -1,9 +1,9 @@
 -- Calls that only look: count and show. Assumes nothing.
-use Rattle.std.proofs.Common.{◌≡◌, ℕ, suc, ◌+◌, ◌<◌, ◌≤◌, Bool, true, false, ◌&&◌, ltb, leb, List, [], ◌∷◌, length, get_or, take, drop, sym, refl, ap, ◌∙◌, subst, arith, ltb-true, le-leb, leb-true}
+use Rattle.std.proofs.Common.{◌≡◌, ℕ, suc, ◌+◌, ◌<◌, ◌≤◌, Bool, true, false, ◌&&◌, ltb, leb, List, [], ◌∷◌, length, get_or, take, drop, refl, arith, ltb-true, le-leb, leb-true}
 use borrow.Author.Tests.{lt-leb}
 use Rattle.model.specs.Paper.{pick, Cell, seen, view}
 use Rattle.model.specs.Rows.{rows}
-use Rattle.model.specs.Calls.{count, show, number, lines, refused, call_number, good_fields, good_call, turned_by, writes, rewritten, moved, fits, turned, told, place}
+use Rattle.model.specs.Calls.{count, show, number, lines, refused, call_number, good_fields, turned_by, writes, rewritten, moved, fits, told, place}
 use Rattle.changes.proofs.Row.{length_changes}
 use Rattle.session.specs.Memory.{limits_of, paper_of, Held}
 use Rattle.session.specs.Acts.{desk_of, Acted}

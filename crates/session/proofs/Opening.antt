@@ -1,14 +1,14 @@
 -- What opening leaves in memory. Assumes nothing.
-use Rattle.std.proofs.Common.{◌≡◌, ℕ, suc, ◌+◌, ◌-◌, ◌*◌, ◌/◌, ◌<◌, ◌≤◌, Bool, true, ◌&&◌, List, [], ◌∷◌, ◌++◌, length, get_or, take, drop, set, replicate, sym, refl, ap, ◌∙◌, subst, arith, le-leb}
+use Rattle.std.proofs.Common.{◌≡◌, ℕ, suc, ◌+◌, ◌-◌, ◌*◌, ◌≤◌, true, ◌&&◌, List, [], ◌∷◌, ◌++◌, length, get_or, take, drop, set, replicate, sym, refl, ap, ◌∙◌, arith, le-leb}
 use borrow.Rule.Slice.PartMut.{put_mid}
 use Rattle.std.specs.List.{range_with_len}
 use Rattle.std.proofs.lemmas.List.{length-append, length-replicate, length-drop, take_at, drop_at, append_assoc, drop_all, drop-drop, append-nil}
 use Rattle.model.specs.Calls.{new_desk}
 use Rattle.changes.specs.Row.{changes_from}
-use Rattle.pieces.specs.Store.{Store, cells_of, cleared_cells, cleared_words}
+use Rattle.pieces.specs.Store.{Store, cells_of, cleared_words}
 use Rattle.pieces.proofs.Cleared.{cleared-long}
 use Rattle.session.specs.Contract.{good_limits, enough}
-use Rattle.session.specs.Memory.{undo_words, slots_for, cells_words, pieces_words, tables, paper_of, Sound, Stands, opened_cells, opened_pieces}
+use Rattle.session.specs.Memory.{undo_words, slots_for, cells_words, pieces_words, tables, Stands, opened_pieces}
 
 -- the limits and no change
 abbrev pub head : ℕ → ℕ → ℕ → List ℕ

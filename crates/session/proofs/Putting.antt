@@ -1,11 +1,10 @@
 -- When a put is turned away, and what it leaves. Assumes nothing.
-use Rattle.std.proofs.Common.{◌≡◌, ℕ, suc, ◌+◌, ◌<◌, ◌≤◌, Bool, true, false, ◌&&◌, eqb, ltb, leb, List, [], ◌∷◌, ◌++◌, length, get_or, take, drop, sym, refl, ap, ◌∙◌, subst, ap₂, arith, ltb-true, leb-true}
+use Rattle.std.proofs.Common.{◌≡◌, ℕ, suc, ◌+◌, ◌<◌, ◌≤◌, Bool, true, false, ◌&&◌, ltb, leb, List, [], ◌∷◌, ◌++◌, length, get_or, take, drop, sym, refl, ap, ◌∙◌, subst, ap₂, arith, ltb-true, leb-true}
 use Rattle.std.proofs.lemmas.List.{length-append}
 use Rattle.model.specs.Paper.{Paper, Cell, Change, new_cells}
 use Rattle.model.specs.Calls.{put, number, refused, call_number, good_fields, good_call, good_letters, Limits, turned_by, writes, rewritten, fits, turned, told, place}
-use Rattle.changes.specs.Row.{changes_of}
 use Rattle.changes.proofs.Row.{length_changes}
-use Rattle.pieces.specs.Store.{before, Store}
+use Rattle.pieces.specs.Store.{before}
 use Rattle.pieces.proofs.Texts.{length_text}
 use Rattle.session.specs.Memory.{limits_of, slots_of, tables, paper_of, Held}
 use Rattle.session.specs.Acts.{Wrote, desk_of, Acted, Rowed, allows, row_of, with_cells}

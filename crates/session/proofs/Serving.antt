@@ -5,9 +5,9 @@ use Rattle.model.specs.Paper.{pick, Paper}
 use Rattle.model.specs.Calls.{Call, put, strikes, accepts, rejects, styles, undo, redo, show, find, count, change, save, Desk, Limits, refused, call_number, turned_by, writes, moved, told, changed, turned, after, answer}
 use Rattle.codec.specs.Bytes.{answer_bytes}
 use Rattle.codec.specs.Reading.{Reading, reading, call_is, ceases}
-use Rattle.session.specs.Memory.{undo_words, limits_of, paper_of, Held, Sound, Stands}
+use Rattle.session.specs.Memory.{undo_words, limits_of, Sound, Stands}
 use Rattle.session.specs.Acts.{Wrote, desk_of, Acted}
-use Rattle.session.specs.Contract.{Beyond, Does, Done, Fit, Called}
+use Rattle.session.specs.Contract.{Does, Done, Fit, Called}
 
 -- a desk with this paper and nothing to undo or redo
 abbrev bare : Paper → Desk

@@ -1,5 +1,5 @@
 -- What a write to the store, and a change that is noted, leave in memory. Assumes nothing.
-use Rattle.std.proofs.Common.{◌≡◌, ℕ, suc, ◌+◌, ◌-◌, ◌*◌, ◌/◌, ◌<◌, ◌≤◌, List, [], ◌∷◌, ◌++◌, length, get_or, take, drop, sym, refl, ap, ◌∙◌, subst, arith}
+use Rattle.std.proofs.Common.{◌≡◌, ℕ, suc, ◌+◌, ◌-◌, ◌*◌, ◌<◌, ◌≤◌, List, [], ◌∷◌, ◌++◌, length, get_or, take, drop, sym, refl, ap, ◌∙◌, subst, arith}
 use borrow.Rule.Slice.PartMut.{put_mid}
 use Rattle.std.proofs.lemmas.List.{length-append, length-take-le, length-drop, drop-drop, get_or-drop, take-append-drop}
 use Rattle.model.specs.Paper.{Cell, Change, Paper, new_cells}
@@ -7,7 +7,7 @@ use Rattle.model.specs.Calls.{Limits}
 use Rattle.changes.specs.Row.{changes_of}
 use Rattle.changes.proofs.Row.{changes_same}
 use Rattle.pieces.specs.Store.{Edited, Store, Frame, cells_of}
-use Rattle.session.specs.Memory.{stage, slots_for, cells_words, pieces_words, limits_of, tables, paper_of, Held}
+use Rattle.session.specs.Memory.{slots_for, limits_of, tables, paper_of, Held}
 use Rattle.session.specs.Acts.{Wrote, Rowed, with_cells}
 use Rattle.session.proofs.Heads.{lent, lent_before, lent_after}
 

@@ -1,5 +1,5 @@
 -- What the functions under `call` promise: they know the paper's part of memory alone. Definitions only: nothing is assumed.
-use Rattle.std.specs.Prelude.{◌≡◌, ℕ, ◌+◌, ◌<◌, ◌≤◌, Bool, ◌&&◌, List, [], ◌∷◌, ◌++◌, length, drop, nat_le, nat_lt, slice_index, slice_index_or}
+use Rattle.std.specs.Prelude.{◌≡◌, ℕ, ◌<◌, ◌≤◌, Bool, ◌&&◌, List, [], ◌++◌, length, drop, nat_le, nat_lt, slice_index, slice_index_or}
 use Rattle.model.specs.Paper.{Cell, Change, Paper}
 use Rattle.model.specs.Calls.{Call, accepts, rejects, Answer, Desk, turned, after, answer}
 use Rattle.sweep.specs.declared.Action.{Action}

@@ -1,7 +1,7 @@
 -- What open and call promise of lent memory and of the answer. Definitions only: nothing is assumed.
-use Rattle.std.specs.Prelude.{◌≡◌, ℕ, ◌+◌, ◌-◌, ◌*◌, ◌/◌, ◌<◌, ◌≤◌, min, Bool, true, false, ◌&&◌, List, [], ◌∷◌, ◌++◌, length, drop, Ok, Err, Result, nat_le, slice_index}
+use Rattle.std.specs.Prelude.{◌≡◌, ℕ, ◌<◌, min, Bool, true, false, ◌&&◌, List, ◌++◌, length, drop, Ok, Err, Result, nat_le, slice_index}
 use Rattle.model.specs.Paper.{pick}
-use Rattle.model.specs.Calls.{Call, Answer, refused, Desk, Limits, turned, after, answer, new_desk}
+use Rattle.model.specs.Calls.{Call, refused, Desk, Limits, turned, after, answer, new_desk}
 use Rattle.codec.specs.Bytes.{answer_bytes}
 use Rattle.codec.specs.Reading.{Reading, reading, call_is, ceases}
 use Rattle.session.specs.Memory.{cells_words, pieces_words, undo_words, limits_of, Sound, Stands, opened_cells, opened_pieces, opened_undo}

@@ -1,6 +1,6 @@
 -- The main promise: what a chain of calls answers, for every list of calls. Each of these is a statement, proved on a function's contract.
-use Rattle.std.specs.Prelude.{◌≡◌, ℕ, ◌+◌, ◌*◌, ◌<◌, ◌≤◌, min, Bool, true, List, [], ◌∷◌, ◌++◌, length, slice_index}
-use Rattle.model.specs.Calls.{Call, Answer, refused, Desk, Limits, turned, after, answer, new_desk}
+use Rattle.std.specs.Prelude.{◌≡◌, ℕ, min, true, List, [], ◌∷◌, ◌++◌, length, slice_index}
+use Rattle.model.specs.Calls.{Call, Answer, refused, Desk, Limits, after, answer, new_desk}
 use Rattle.model.specs.Promise.{GoodLimits, readable, Memory, Keeper, Right, EnoughMemory, RefusalKeeps}
 use Rattle.codec.specs.Bytes.{call_bytes, answer_bytes}
 use Rattle.codec.specs.Reading.{Reading, reading, call_is, ceases}

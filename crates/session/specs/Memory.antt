@@ -2,7 +2,7 @@
 -- cells: the slots of the store. pieces: 0 to 2 the limits, 3 how many changes there are, 4 to 15 not used (opening makes them 0, and no call tells of
 -- them); from 16 on the changes, two words each, for as many as the limit allows; after them the tables of the store. undo: nothing in this stage.
 -- Definitions only: nothing is assumed.
-use Rattle.std.specs.Prelude.{◌≡◌, ℕ, ◌+◌, ◌-◌, ◌*◌, ◌/◌, ◌≤◌, Bool, ◌||◌, List, [], ◌∷◌, ◌++◌, length, drop, replicate, ◌==◌, nat_le, slice_index, slice_index_or}
+use Rattle.std.specs.Prelude.{◌≡◌, ℕ, ◌+◌, ◌-◌, ◌*◌, ◌/◌, ◌≤◌, Bool, ◌||◌, List, ◌∷◌, ◌++◌, length, drop, replicate, ◌==◌, nat_le, slice_index, slice_index_or}
 use Rattle.std.specs.List.{range_with_len}
 use Rattle.model.specs.Paper.{Paper}
 use Rattle.model.specs.Calls.{Desk, Limits}

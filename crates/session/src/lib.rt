@@ -1,5 +1,7 @@
 // The desk on lent memory: three slices of words, which the caller lends to every call. `open` makes an empty desk in them, `call` does a call that
 // comes as bytes and writes the answer as bytes. What memory holds, and what each promises of it, is in specs/.
+#![tactic(auto)]
+
 ghost use Rattle.std.specs.Prelude.{◌≡◌, ℕ, ◌+◌, ◌*◌, ◌<◌, ◌≤◌, min, true, false, [], ◌∷◌, ◌++◌, length, take, drop, replicate, Some, None, nat_le, slice_index};
 ghost use Rattle.model.specs.Paper.{new_cells};
 ghost use Rattle.pieces.specs.Store.{Table, before};

@@ -1,4 +1,6 @@
 // Cells in lent words, four words a cell: read one, write one, copy a run of cells, paste one from other words, fill one with new letters.
+#![tactic(auto)]
+
 ghost use Rattle.std.specs.Prelude.{◌≡◌, ◌+◌, ◌*◌, ◌<◌, ◌≤◌, length};
 ghost use Rattle.model.specs.Paper.{new_cells};
 ghost use Rattle.model.specs.Values.{cell_of};

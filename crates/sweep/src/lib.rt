@@ -1,4 +1,6 @@
 // Strike, accept, reject and style over the cells of a store, said once: each is a sweep, which goes over cells in order, drops some and changes others.
+#![tactic(auto)]
+
 ghost use Rattle.std.specs.Prelude.{◌≡◌, ℕ, suc, ◌+◌, ◌-◌, ◌*◌, ◌<◌, ◌≤◌, false, ◌||◌, ◌≢◌, List, ◌++◌, length, take, drop, ◌==◌, nat_eq};
 ghost use Rattle.changes.specs.Row.{changes_of};
 ghost use Rattle.model.specs.Paper.{Change, author_of, pick, touched as touches};

@@ -1,11 +1,10 @@
 -- The line of a call reads as that call.
-use Rattle.std.proofs.Common.{◌≡◌, ℕ, zero, suc, ◌+◌, ◌-◌, ◌*◌, ◌/◌, ◌%◌, ◌^◌, ◌<◌, ◌≤◌, Bool, true, false, ◌&&◌, eqb, ltb, leb, ◌⊎◌, List, [], ◌∷◌, ◌++◌, length, get_or, take, drop, codes, decimal, sym, refl, ap, ◌∙◌, inl, inr, ⊎_elim, arith}
+use Rattle.std.proofs.Common.{◌≡◌, ℕ, ◌+◌, ◌-◌, ◌*◌, ◌/◌, ◌%◌, ◌^◌, ◌<◌, ◌≤◌, true, false, ltb, List, [], ◌∷◌, ◌++◌, length, decimal, sym, refl, ap, ◌∙◌, ⊎_elim, arith}
 use Rattle.std.proofs.lemmas.Fmt.{decimal_digit, decimal_by_steps}
 use Rattle.std.proofs.lemmas.List.{append_assoc, append-nil}
-use Rattle.std.proofs.lemmas.Bool.{and_parts, ltb-true, lt-ltb, le-leb, lt-leb, eqb-true, eq-eqb, ne_eqb, cases_lt, cases_eq}
-use Rattle.model.specs.Paper.{pick}
+use Rattle.std.proofs.lemmas.Bool.{and_parts, ltb-true, lt-ltb, le-leb, ne_eqb, cases_lt, cases_eq}
 use Rattle.model.specs.Calls.{Call, put, strikes, accepts, rejects, styles, undo, redo, show, find, count, change, save}
-use Rattle.text.specs.Lines.{Step, got, stop, and_then, literal_in, digit, digits_in, number_in, field_in, numbers_in, numbers_line, small, mark_of, letters_in, letter_line, letters_line, quoted_in, quoted_line, tail_in, ended, call_of, call_in, means, line_reading, reading_from, line_of, readable, limits_reading, limits_line}
+use Rattle.text.specs.Lines.{got, and_then, literal_in, digit, digits_in, number_in, numbers_in, numbers_line, small, mark_of, letters_in, letter_line, letters_line, quoted_in, quoted_line, ended, call_of, means, line_reading, reading_from, line_of, readable, limits_reading, limits_line}
 use Rattle.text.proofs.Whole.{tried, placed}
 use Rattle.text.proofs.Steps.{letters_cons}
 use Rattle.text.specs.declared.reader.Mark.TheVariants.{Letter}

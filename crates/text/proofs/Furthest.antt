@@ -1,5 +1,5 @@
 -- A line that ceases at a place: what comes before the place begins the line of some call.
-use Rattle.std.proofs.Common.{◌≡◌, ℕ, zero, suc, ◌+◌, ◌-◌, ◌*◌, ◌^◌, ◌<◌, ◌≤◌, max, Bool, true, false, eqb, ltb, leb, ◌⊎◌, List, [], ◌∷◌, ◌++◌, length, take, codes, decimal, sym, refl, ap, ◌∙◌, subst, inl, inr, arith}
+use Rattle.std.proofs.Common.{◌≡◌, ℕ, zero, suc, ◌+◌, ◌-◌, ◌*◌, ◌<◌, ◌≤◌, max, Bool, true, false, eqb, ltb, leb, ◌⊎◌, List, [], ◌∷◌, ◌++◌, length, take, codes, decimal, sym, refl, ap, ◌∙◌, subst, inl, inr, arith}
 use Rattle.std.proofs.lemmas.Fmt.{decimal_digit}
 use Rattle.std.proofs.lemmas.List.{append_assoc, append-nil, take_at, length-append}
 use Rattle.std.proofs.lemmas.Bool.{and_parts, and_from, ltb-true, lt-ltb, leb-true, eqb-true, eqb-false, cases_lt}
@@ -7,7 +7,7 @@ use Rattle.model.specs.Paper.{pick}
 use Rattle.model.specs.Calls.{Call, undo}
 use Rattle.text.specs.declared.reader.Mark.{Mark}
 use Rattle.text.specs.declared.reader.Mark.TheVariants.{Letter, Backslash, Quote, Wrong}
-use Rattle.text.specs.Lines.{Step, got, stop, and_then, literal_in, digit, digits_in, number_in, field_in, numbers_in, numbers_line, small, mark_of, letters_in, letter_line, letters_line, quoted_line, tail_in, ended, head_in, shape_of, call_of, call_in, line_of, readable, means, ceases, reading_from, line_reading, BeginsCall}
+use Rattle.text.specs.Lines.{Step, got, stop, and_then, literal_in, digit, digits_in, number_in, field_in, numbers_in, numbers_line, small, mark_of, letters_in, letter_line, letters_line, tail_in, ended, head_in, shape_of, call_of, call_in, line_of, readable, ceases, reading_from, line_reading, BeginsCall}
 use Rattle.text.proofs.Whole.{tried}
 use Rattle.text.proofs.Steps.{after_mark, letters_cons}
 use Rattle.text.proofs.Only.{both, literal_only, one_more, field_only, numbers_only, slash, letter_only, slash_only, tail_line, tail_only, its_line}

@@ -1,10 +1,10 @@
 -- A whole line as a call, and the bytes of that call.
-use Rattle.std.proofs.Common.{◌≡◌, ℕ, zero, suc, ◌+◌, ◌-◌, ◌*◌, ◌/◌, ◌%◌, ◌^◌, ◌<◌, ◌≤◌, max, Bool, true, false, List, [], ◌∷◌, ◌++◌, length, get_or, take, drop, codes, sym, refl, ap, ◌∙◌, arith, length-drop}
+use Rattle.std.proofs.Common.{◌≡◌, ℕ, zero, suc, ◌+◌, ◌-◌, ◌/◌, ◌%◌, ◌^◌, ◌<◌, ◌≤◌, max, Bool, true, false, List, [], ◌∷◌, ◌++◌, length, get_or, take, drop, codes, sym, refl, ap, ◌∙◌, arith, length-drop}
 use Rattle.std.proofs.lemmas.List.{drop_more, drop_all, take_more, take_all, length-take-le, append_assoc, append-nil}
 use Rattle.model.specs.Paper.{pick}
 use Rattle.model.specs.Calls.{Call}
 use Rattle.codec.specs.Bytes.{word_bytes, words_bytes, call_bytes}
-use Rattle.text.specs.Lines.{Step, got, stop, and_then, head_in, tail_in, ended, Shape, shape_of, call_of, call_in, Reading, means, ceases, reading_from, limits_in, limits_reading, Lacks, Fails}
+use Rattle.text.specs.Lines.{Step, got, stop, and_then, head_in, tail_in, ended, shape_of, call_of, call_in, Reading, means, ceases, reading_from, limits_reading, Lacks, Fails}
 use Rattle.text.specs.declared.fault.Fault.{Fault}
 use Rattle.text.specs.declared.fault.Fault.TheVariants.{Place, Memory}
 

@@ -1,5 +1,5 @@
 -- Answers as lines of text, and how a line is made of an answer's bytes. Definitions only: nothing is assumed.
-use Rattle.std.specs.Prelude.{◌≡◌, ℕ, zero, suc, ◌+◌, ◌*◌, ◌<◌, ◌≤◌, Bool, true, false, ◌&&◌, ◌||◌, List, [], ◌∷◌, ◌++◌, length, drop, codes, decimal, ◌==◌, nat_lt, slice_index}
+use Rattle.std.specs.Prelude.{ℕ, zero, suc, ◌+◌, ◌*◌, Bool, true, ◌&&◌, ◌||◌, List, [], ◌∷◌, ◌++◌, length, drop, codes, decimal, ◌==◌, nat_lt, slice_index}
 use Rattle.model.specs.Paper.{pick, Cell}
 use Rattle.model.specs.Calls.{Answer, refused, number, two, lines, numbers}
 use Rattle.text.specs.Lines.{Step, got, stop, and_then, ended, numbers_line}

@@ -1,4 +1,6 @@
 // Calls and answers as lines of text.
+#![tactic(auto)]
+
 mod fault;
 mod laws;
 mod reader;

@@ -4,7 +4,7 @@ use Rattle.std.proofs.lemmas.List.{append_assoc, append-nil, drop_all, length-re
 use Rattle.std.proofs.lemmas.Result.{MatchResult-weaker}
 use Rattle.std.proofs.lemmas.Bool.{and_parts, leb-true, le-leb, lt-ltb}
 use Rattle.model.specs.Paper.{pick}
-use Rattle.model.specs.Calls.{Call, Answer, refused, Desk, Limits, after, answer, new_desk}
+use Rattle.model.specs.Calls.{Call, Answer, refused, Desk, Limits, answer, new_desk}
 use Rattle.model.specs.Promise.{all_below}
 use Rattle.model.specs.Origin.{NothingFromNowhere}
 use Rattle.codec.specs.Bytes.{word_bytes, words_bytes, call_bytes, answer_bytes}

@@ -1,4 +1,6 @@
 // The answers to a file of calls, a line for each. What they are is in specs/.
+#![tactic(auto)]
+
 ghost use Rattle.std.specs.Prelude.{◌≡◌, ◌<◌, ◌≤◌, min, true, [], ◌∷◌, length, Some, None, MatchResult};
 ghost use Rattle.model.specs.Calls.{Answer as Said, Desk, new_desk, refused};
 ghost use Rattle.codec.specs.Bytes.{answer_bytes};

@@ -1,5 +1,7 @@
 // A tree of counts in a slice of words: 2,048 leaves, each of at most 1,024, and every node above them holds the sum of its two children. Word 0 is
 // not used, word 1 is the root, the children of word i are words 2 i and 2 i + 1, and leaf k is word 2048 + k. Words from 4096 on are not touched.
+#![tactic(auto)]
+
 ghost use Rattle.std.specs.Prelude.{◌≡◌, ℕ, ◌+◌, ◌-◌, ◌*◌, ◌^◌, ◌<◌, ◌≤◌, length, drop, slice_index, slice_set};
 ghost use Rattle.tree.specs.Tree.{Found, Light, Over, Sums, added, leftmost, total};
 

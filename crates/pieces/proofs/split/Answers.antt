@@ -1,5 +1,4 @@
 use Rattle.std.proofs.Common.{arith}
-use Rattle.pieces.specs.Store.{used}
 use Rattle.pieces.proofs.Cuts.{rotated-order, rotated-next, rotated-here, cut}
 use Rattle.pieces.proofs.split.Goals as goal
 

@@ -1,4 +1,4 @@
-use Rattle.std.proofs.Common.{◌≡◌, sym, refl}
+use Rattle.std.proofs.Common.{refl}
 use Rattle.model.specs.Calls.{call_number, find, redo, save, undo}
 use Rattle.session.proofs.Saying.{out_of_range}
 use Rattle.session.proofs.act.Goals as goal

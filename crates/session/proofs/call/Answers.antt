@@ -1,7 +1,6 @@
-use Rattle.std.proofs.Common.{◌≡◌, min, ◌++◌, length, take, drop, sym, ap, ◌∙◌}
+use Rattle.std.proofs.Common.{◌≡◌, min, ◌++◌, length, take, drop}
 use Rattle.model.specs.Calls.{answer, refused}
 use Rattle.codec.specs.Bytes.{answer_bytes}
-use Rattle.codec.specs.Reading.{call_is, ceases, reading}
 use Rattle.codec.specs.Values.{meaning}
 use Rattle.session.specs.Acts.{desk_of}
 use Rattle.session.specs.Memory.{limits_of}

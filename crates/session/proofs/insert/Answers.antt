@@ -1,7 +1,7 @@
-use Rattle.std.proofs.Common.{◌≡◌, ℕ, ◌+◌, ◌-◌, ◌*◌, ◌≤◌, List, ◌++◌, length, get_or, take, drop, ap, ◌∙◌, arith}
-use Rattle.std.proofs.lemmas.List.{take_rest, length-append, take-append-drop}
+use Rattle.std.proofs.Common.{◌≡◌, ◌+◌, ◌-◌, ◌*◌, ◌≤◌, List, ◌++◌, length, get_or, take, drop, arith}
+use Rattle.std.proofs.lemmas.List.{take_rest}
 use Rattle.model.specs.Paper.{Cell, new_cells}
-use Rattle.pieces.specs.Store.{Edited, cells_of}
+use Rattle.pieces.specs.Store.{Edited}
 use Rattle.session.specs.Memory.{slots_of, tables, paper_of}
 use Rattle.session.proofs.Writing.{restored, inserted_length}
 use Rattle.session.proofs.insert.Goals as goal

@@ -1,4 +1,4 @@
-use Rattle.std.proofs.Common.{◌≡◌, true, false, sym, ◌∙◌}
+use Rattle.std.proofs.Common.{◌≡◌, true, sym, ◌∙◌}
 use Rattle.model.specs.Calls.{good_fields, refused}
 use Rattle.codec.specs.Values.{meaning, told}
 use Rattle.session.proofs.Ranges.{in_range_is, not_shown, out_is_bad}

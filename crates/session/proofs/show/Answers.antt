@@ -1,11 +1,10 @@
-use Rattle.std.proofs.Common.{◌≡◌, ℕ, ◌+◌, ◌<◌, ◌≤◌, List, ◌++◌, length, take, drop, sym, refl, ap, ◌∙◌, subst}
+use Rattle.std.proofs.Common.{◌≡◌, ◌<◌, ◌≤◌, take, drop}
 use Rattle.std.proofs.lemmas.List.{take_rest}
 use Rattle.model.specs.Paper.{view}
 use Rattle.model.specs.Rows.{rows}
-use Rattle.model.specs.Calls.{Answer, answer, lines, refused, show}
+use Rattle.model.specs.Calls.{lines, refused, show}
 use Rattle.layout.specs.Shown.{Shows, ShowsNone}
-use Rattle.session.specs.Acts.{Acted, desk_of}
-use Rattle.session.specs.Memory.{limits_of, paper_of, slots_of}
+use Rattle.session.specs.Memory.{paper_of, slots_of}
 use Rattle.session.proofs.Looking.{not_shown, show-range, shown}
 use Rattle.session.proofs.Saying.{said}
 use Rattle.session.proofs.show.Goals as goal

@@ -1,4 +1,4 @@
-use Rattle.std.proofs.Common.{◌≡◌, sym, ap, ◌∙◌, arith}
+use Rattle.std.proofs.Common.{arith}
 use Rattle.pieces.proofs.Change.{resized_grown, resized_order}
 use Rattle.pieces.proofs.Sets.{sums_beside}
 use Rattle.sweep.proofs.Sets.{past_tree}

@@ -1,4 +1,4 @@
-use Rattle.std.proofs.Common.{◌≡◌, ◌<◌, ◌≤◌, drop, refl, ap, ◌∙◌, zero-add, arith, below_more}
+use Rattle.std.proofs.Common.{◌≡◌, ◌<◌, drop, refl, ap, ◌∙◌, zero-add, arith, below_more}
 use Rattle.changes.specs.Row.{changes_of}
 use Rattle.pieces.specs.Store.{piece}
 use Rattle.pieces.proofs.Change.{frame_none, frame_both}

@@ -1,12 +1,11 @@
-use Rattle.std.proofs.Common.{◌≡◌, ◌+◌, ◌-◌, ◌*◌, ◌<◌, ◌≤◌, length, take, drop, sym, ap, ◌∙◌, arith}
+use Rattle.std.proofs.Common.{◌≡◌, ◌+◌, ◌-◌, ◌*◌, ◌≤◌, length, take, drop, ◌∙◌, arith}
 use borrow.Rule.Slice.PartMut.{put_mid}
 use Rattle.std.proofs.lemmas.List.{length-drop, take_rest}
 use Rattle.std.proofs.lemmas.Slice.{take-put_mid_below}
 use Rattle.changes.specs.Row.{changes_of}
-use Rattle.tree.specs.Tree.{Sums}
 use Rattle.tree.proofs.Part.{lent_back}
-use Rattle.pieces.specs.Edits.{Changed, Filled, Resized}
-use Rattle.pieces.specs.Store.{Store, piece, used}
+use Rattle.pieces.specs.Edits.{Filled, Resized}
+use Rattle.pieces.specs.Store.{piece, used}
 use Rattle.pieces.proofs.Change.{replaced_here}
 use Rattle.pieces.proofs.Edit.{store_after}
 use Rattle.sweep.specs.Sweep.{swept, swept_run}

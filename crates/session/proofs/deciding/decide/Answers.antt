@@ -1,4 +1,4 @@
-use Rattle.std.proofs.Common.{◌≡◌, get_or, arith}
+use Rattle.std.proofs.Common.{◌≡◌, arith}
 use Rattle.model.specs.Calls.{with_became}
 use Rattle.model.specs.Paper.{touched}
 use Rattle.model.specs.Values.{change_of}

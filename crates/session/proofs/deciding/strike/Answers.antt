@@ -1,4 +1,4 @@
-use Rattle.std.proofs.Common.{◌≡◌, ◌+◌, ◌<◌, ◌≤◌, true, false, leb, length, get_or, arith, leb-true}
+use Rattle.std.proofs.Common.{◌≡◌, ◌+◌, ◌<◌, ◌≤◌, true, false, leb, get_or, arith, leb-true}
 use Rattle.pieces.specs.Store.{before}
 use Rattle.sweep.specs.Sweep.{swept_run}
 use Rattle.sweep.specs.declared.Action.TheVariants.{Strike}

@@ -1,4 +1,4 @@
-use Rattle.std.proofs.Common.{◌≡◌, ◌<◌, length, drop}
+use Rattle.std.proofs.Common.{◌≡◌, ◌<◌, drop}
 use Rattle.text.specs.Lines.{digits_in}
 use Rattle.text.proofs.reader.digits.Given as goal
 

@@ -1,6 +1,6 @@
 use Rattle.std.proofs.Common.{◌≡◌, [], ◌∷◌, length, drop, vec_items, sym, refl, ap, ◌∙◌, arith}
 use Rattle.std.proofs.lemmas.Slice.{pushed}
-use Rattle.text.specs.Lines.{stop, letters_in}
+use Rattle.text.specs.Lines.{stop}
 use Rattle.text.specs.declared.reader.Mark.TheVariants.{Letter, Backslash, Quote, Wrong}
 use Rattle.text.proofs.Steps.{letters_next, letters_short}
 use Rattle.text.proofs.reader.letters.Goals as goal

@@ -1,4 +1,4 @@
-use Rattle.std.proofs.Common.{◌≡◌, false, length, drop, vec_items}
+use Rattle.std.proofs.Common.{◌≡◌, false, drop, vec_items}
 use Rattle.text.specs.Lines.{letters_in}
 use Rattle.text.proofs.reader.letters.Given as goal
 

@@ -1,4 +1,4 @@
-use Rattle.std.proofs.Common.{◌<◌, get_or, sym, ◌∙◌, arith}
+use Rattle.std.proofs.Common.{◌<◌, get_or, arith}
 use Rattle.text.proofs.Steps.{number-none, number-zero, number-wrong, number_more}
 use Rattle.text.proofs.reader.number.Goals as goal
 

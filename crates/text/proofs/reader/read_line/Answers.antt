@@ -1,4 +1,4 @@
-use Rattle.std.proofs.Common.{◌≡◌, ◌+◌, ◌-◌, sym, ap, ◌∙◌, subst}
+use Rattle.std.proofs.Common.{◌+◌, ◌-◌, sym, ap, ◌∙◌, subst}
 use Rattle.text.specs.Lines.{call_in, reading_from, Fails}
 use Rattle.text.proofs.Whole.{reading_got, reading_stop, reading_none}
 use Rattle.text.proofs.reader.read_line.Goals as goal

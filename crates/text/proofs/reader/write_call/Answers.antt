@@ -1,4 +1,4 @@
-use Rattle.std.proofs.Common.{◌≡◌, [], ◌∷◌, ◌++◌, length, get_or, vec_items, sym, ap, ◌∙◌}
+use Rattle.std.proofs.Common.{[], ◌∷◌, ◌++◌, length, get_or, vec_items, sym, ap, ◌∙◌}
 use Rattle.codec.specs.Bytes.{word_bytes, words_bytes}
 use Rattle.text.proofs.Whole.{words_none, words_more, words_all, joined_letters, joined_plain}
 use Rattle.text.proofs.reader.write_call.Goals as goal

@@ -1,4 +1,4 @@
-use Rattle.std.proofs.Common.{◌≡◌, ℕ, ◌+◌, ◌%◌, ◌^◌, ◌<◌, List, [], ◌∷◌, ◌++◌, vec_items, ap, ◌∙◌, arith}
+use Rattle.std.proofs.Common.{ℕ, ◌+◌, ◌%◌, ◌^◌, ◌<◌, List, [], ◌∷◌, ◌++◌, vec_items, ap, ◌∙◌, arith}
 use Rattle.text.proofs.Showing.{digits_one, digits_more}
 use Rattle.text.proofs.writer.+push_number.Goals as goal
 use Rattle.text.proofs.writer.+push_number.Goals.{then-n-ge10+in_ok-push_number, else-n-ge10}

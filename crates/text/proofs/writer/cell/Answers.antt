@@ -1,4 +1,4 @@
-use Rattle.std.proofs.Common.{◌≡◌, ◌+◌, drop, vec_items, sym, ap, ◌∙◌, arith}
+use Rattle.std.proofs.Common.{◌+◌, drop, vec_items, sym, ap, ◌∙◌, arith}
 use Rattle.text.specs.Lines.{got}
 use Rattle.text.proofs.Showing.{cell-short, cell-wrong, cell-whole}
 use Rattle.text.proofs.writer.cell.Goals as goal

@@ -1,4 +1,4 @@
-use Rattle.std.proofs.Common.{◌≡◌, ◌+◌, drop, vec_items, sym, ap, ◌∙◌, arith}
+use Rattle.std.proofs.Common.{◌+◌, drop, vec_items, sym, ap, ◌∙◌, arith}
 use Rattle.text.specs.Lines.{got}
 use Rattle.text.proofs.Showing.{number_short, number-whole}
 use Rattle.text.proofs.writer.number.Goals as goal

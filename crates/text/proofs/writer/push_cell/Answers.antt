@@ -1,4 +1,4 @@
-use Rattle.std.proofs.Common.{◌≡◌, [], ◌∷◌, ◌++◌, vec_items, ap, ◌∙◌}
+use Rattle.std.proofs.Common.{[], ◌∷◌, ◌++◌, vec_items, ap, ◌∙◌}
 use Rattle.text.specs.Shown.{mark_line, escape_line}
 use Rattle.text.proofs.Showing.{cell_parts}
 use Rattle.text.proofs.writer.push_cell.Goals as goal

@@ -1,4 +1,4 @@
-use Rattle.std.proofs.Common.{◌≡◌, drop, vec_items, sym, ◌∙◌}
+use Rattle.std.proofs.Common.{drop, vec_items, sym, ◌∙◌}
 use Rattle.std.proofs.lemmas.Result.{err_from_is_err_and}
 use Rattle.text.specs.Shown.{row_shown}
 use Rattle.text.proofs.Showing.{counted-short, counted-whole, repeated-more, repeated-break, repeated-done}

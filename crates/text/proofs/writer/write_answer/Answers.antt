@@ -1,7 +1,5 @@
 use Rattle.std.proofs.Common.{drop, vec_items}
 use Rattle.std.proofs.lemmas.Result.{err_from_is_err_and}
-use Rattle.text.specs.Lines.{Fails, Lacks}
-use Rattle.text.specs.Shown.{answer_shown}
 use Rattle.text.proofs.Shows.{written, no_stop, only-memory, shown-whole, shown-over, shown_fails}
 use Rattle.text.proofs.writer.write_answer.Goals as goal
 
