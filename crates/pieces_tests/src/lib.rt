@@ -1,5 +1,7 @@
 // Puts, removals and writes at many places of a store with few slots, so that pieces are cut and packed together, beside a plain row of cells.
 // In a crate of its own, since a crate with tests is proved twice.
+#![tactic(auto)]
+
 ghost use Rattle.std.specs.Prelude.{◌≤◌, length};
 ghost use Rattle.pieces.specs.Store.{Store};
 

@@ -3,4 +3,4 @@ use Rattle.pieces.specs.Store.{Store}
 use Rattle.pieces_tests.proofs.tests.run.Given as goal
 
 abbrev pub invariant-loop-change : goal.invariant-loop-change
-invariant-loop-change l = Store l.c l.p 5 × (l.seed < 65537)
+invariant-loop-change g l = Store l.c l.p 5 × (l.seed < 65537)
