@@ -1,6 +1,6 @@
 -- The steps through a text, from word to word and from character to character.
 use Rattle.std.proofs.Common.{◌≡◌, ℕ, ◌+◌, ◌-◌, ◌*◌, ◌<◌, ◌≤◌, Bool, true, false, ◌⊎◌, List, [], ◌∷◌, ◌++◌, map, length, get_or, take, drop, set, sym, refl, ap, ◌∙◌, subst, inl, inr, append_assoc, append-nil, arith}
-use Rattle.std.specs.List.{AllByRecursion as All}
+use Rattle.std.specs.List.{AllByRecursion}
 use Rattle.std.proofs.lemmas.List.{drop_more, drop_all, length-append, length_push, length-map, take_at, set_at, map_push, get_or_at, get_or_append_left, get_or_push}
 use Rattle.std.proofs.ByRecursion.{All-push, All-get_or}
 use Rattle.std.proofs.lemmas.Bool.{cases_lt, both_ways}
@@ -53,7 +53,7 @@ first_word w (c ∷ cs) h = go (white c) refl (first_word (w ++ (c ∷ [])) cs (
     go false e r = (c ∷ r.0, r.1, words_more w c cs e ∙ (r.2 ∙ ap (λ (v : List ℕ). v ∷ r.1) (append_assoc w (c ∷ []) r.0)))
 
 -- a word with no white space in it, before white space and at the end
-solid : (w u cs : List ℕ) → All Solid u → words_after w (u ++ cs) ≡ words_after (w ++ u) cs
+solid : (w u cs : List ℕ) → AllByRecursion Solid u → words_after w (u ++ cs) ≡ words_after (w ++ u) cs
 solid w [] cs h = ap (λ (v : List ℕ). words_after v cs) (sym (append-nil w))
 solid w (c ∷ u) cs h =
     words_more w c (u ++ cs) h.0 ∙ (solid (w ++ (c ∷ [])) u cs h.1 ∙ ap (λ (v : List ℕ). words_after v cs) (append_assoc w (c ∷ []) u))
@@ -154,7 +154,7 @@ pub record Reads (text old out : List ℕ) (at count : ℕ) : Type 0 where
   pub done : List (List ℕ)
   pub split : words text ≡ done ++ words (drop at text)
   pub long : length done ≡ count
-  pub fit : All WordFits done
+  pub fit : AllByRecursion WordFits done
   pub wrote : out ≡ map value done ++ drop count old
   pub room : count ≤ length old
   pub within : at ≤ length text

@@ -1,6 +1,6 @@
 -- What the words of a text are, and that files and papers belong to one another in one way only. Each is a statement, proved on a function's contract.
 use Rattle.std.specs.Prelude.{◌≡◌, ℕ, ◌<◌, true, false, List, [], ◌∷◌, ◌++◌, length}
-use Rattle.std.specs.List.{AllByRecursion as All}
+use Rattle.std.specs.List.{AllByRecursion}
 use Rattle.model.specs.Paper.{Paper, written}
 use Rattle.file.specs.Paper.{Fits, paper_of, IsFile, Ceases}
 use Rattle.file.specs.Words.{white, words}
@@ -13,8 +13,8 @@ Solid c = white c ≡ false
 pub record WordsAre : Type 0 where
   pub none : words [] ≡ []
   pub blank : (c : ℕ) (text : List ℕ) → white c ≡ true → words (c ∷ text) ≡ words text
-  pub last : (w : List ℕ) → 0 < length w → All Solid w → words w ≡ w ∷ []
-  pub first : (w : List ℕ) (c : ℕ) (text : List ℕ) → 0 < length w → All Solid w → white c ≡ true → words (w ++ (c ∷ text)) ≡ w ∷ words text
+  pub last : (w : List ℕ) → 0 < length w → AllByRecursion Solid w → words w ≡ w ∷ []
+  pub first : (w : List ℕ) (c : ℕ) (text : List ℕ) → 0 < length w → AllByRecursion Solid w → white c ≡ true → words (w ++ (c ∷ text)) ≡ w ∷ words text
 
 -- what is read from the file of a paper that fits is that paper
 abbrev pub ReadsBack : Type 0

@@ -1,6 +1,6 @@
 -- The numbers in a text: its words, which white space parts, each of them digits. Definitions only: nothing is assumed.
 use Rattle.std.specs.Prelude.{◌≡◌, ℕ, ◌+◌, ◌-◌, ◌*◌, ◌<◌, ◌≤◌, Bool, ◌||◌, ◌⊎◌, List, [], ◌∷◌, ◌++◌, map, length, take, drop, ◌==◌, slice_index_or}
-use Rattle.std.specs.List.{AllByRecursion as All}
+use Rattle.std.specs.List.{AllByRecursion}
 use Rattle.model.specs.Paper.{pick}
 
 -- space, newline, carriage return, tab
@@ -32,14 +32,14 @@ Digit c = (48 ≤ c) × (c ≤ 57)
 
 -- a word that is a number: digits, of which the first may be 0, worth at most 4294967295
 pub record WordFits (w : List ℕ) : Type 0 where
-  pub digits : All Digit w
+  pub digits : AllByRecursion Digit w
   pub small : value w < 4294967296
 
 -- all n words of a text are numbers, and stand at the front of what was lent; the words after them are as they were
 pub record AllRead (text old out : List ℕ) (n : ℕ) : Type 0 where
   pub count : length (words text) ≡ n
   pub room : n ≤ length old
-  pub fit : All WordFits (words text)
+  pub fit : AllByRecursion WordFits (words text)
   pub wrote : out ≡ map value (words text) ++ drop n old
 
 -- The first n words of a text are numbers, and stand at the front of what was lent; the words after them are as they were.
@@ -47,6 +47,6 @@ pub record AllRead (text old out : List ℕ) (n : ℕ) : Type 0 where
 pub record Stops (text old out : List ℕ) (n : ℕ) : Type 0 where
   pub within : n < length (words text)
   pub room : n ≤ length old
-  pub fit : All WordFits (take n (words text))
+  pub fit : AllByRecursion WordFits (take n (words text))
   pub wrote : out ≡ map value (take n (words text)) ++ drop n old
   pub why : (n ≡ length old) ⊎ (WordFits (slice_index_or (words text) n []) → ⊥)

@@ -1,7 +1,7 @@
 -- Nothing comes from nowhere: what holds of each letter that is put in holds of each letter of the paper, and of all papers that can be had back.
 -- Assumes nothing.
 use Rattle.std.proofs.Common.{◌≡◌, ℕ, zero, suc, ◌-◌, Bool, true, false, eqb, leb, List, [], ◌∷◌, ◌++◌, refl, ap, subst}
-use Rattle.std.specs.List.{ContainsAt as Has, AllByRecursion as All}
+use Rattle.std.specs.List.{ContainsAt, AllByRecursion}
 use Rattle.std.proofs.lemmas.Bool.{eqb-true}
 use Rattle.std.proofs.ByRecursion.{All-append, All-take, All-drop, All-weaker, all_has_itself}
 use Rattle.model.specs.Paper.{pick, Cell, Change, Paper, new_cells, strike, accept, reject, styled}
@@ -9,14 +9,14 @@ use Rattle.model.specs.Calls.{Call, put, strikes, accepts, rejects, styles, undo
 use Rattle.model.specs.Origin.{PutBy, NothingFromNowhere}
 use Rattle.model.proofs.Rows.{by_test}
 
-remembered_all : (Q : Before → Type 0) (u : ℕ) (bs : List Before) → All Q bs → All Q (remembered u bs)
+remembered_all : (Q : Before → Type 0) (u : ℕ) (bs : List Before) → AllByRecursion Q bs → AllByRecursion Q (remembered u bs)
 unfolding remembered
 remembered_all Q u [] h = tt
 remembered_all Q u (b ∷ bs) h =
-    by_test (leb (suc b.much) u) (b ∷ remembered (u - suc b.much) bs) [] (All Q) (λ _. (h.0, remembered_all Q (u - suc b.much) bs h.1)) (λ _. tt)
+    by_test (leb (suc b.much) u) (b ∷ remembered (u - suc b.much) bs) [] (AllByRecursion Q) (λ _. (h.0, remembered_all Q (u - suc b.much) bs h.1)) (λ _. tt)
 
 -- an element that goes by a test, and else stays
-all_or_less : {X : Type 0} (Q : X → Type 0) (b : Bool) (y : X) (ys : List X) → Q y → All Q ys → All Q (pick b ys (y ∷ ys))
+all_or_less : {X : Type 0} (Q : X → Type 0) (b : Bool) (y : X) (ys : List X) → Q y → AllByRecursion Q ys → AllByRecursion Q (pick b ys (y ∷ ys))
 all_or_less Q true y ys h k = k
 all_or_less Q false y ys h k = (h, k)
 
@@ -25,34 +25,34 @@ module _ (P : ℕ → Type 0) where
   abbrev Of : Cell → Type 0
   Of x = P x.letter
 
-  new-cells-all : (ls : List ℕ) (s c : ℕ) → All P ls → All Of (new_cells ls s c)
+  new-cells-all : (ls : List ℕ) (s c : ℕ) → AllByRecursion P ls → AllByRecursion Of (new_cells ls s c)
   unfolding new_cells
   new-cells-all [] s c h = tt
   new-cells-all (l ∷ ls) s c h = (h.0, new-cells-all ls s c h.1)
 
-  strike-all : (xs : List Cell) (n : ℕ) (cs : List Change) (a c : ℕ) → All Of xs → All Of (strike xs n cs a c)
+  strike-all : (xs : List Cell) (n : ℕ) (cs : List Change) (a c : ℕ) → AllByRecursion Of xs → AllByRecursion Of (strike xs n cs a c)
   unfolding strike
   strike-all [] n cs a c h = tt
   strike-all (x ∷ xs) zero cs a c h = h
   strike-all (x ∷ xs) (suc n) cs a c h = all_or_less Of _ _ _ h.0 (strike-all xs n cs a c h.1)
 
-  accept-all : (xs : List Cell) (c : ℕ) → All Of xs → All Of (accept xs c)
+  accept-all : (xs : List Cell) (c : ℕ) → AllByRecursion Of xs → AllByRecursion Of (accept xs c)
   unfolding accept
   accept-all [] c h = tt
   accept-all (x ∷ xs) c h = all_or_less Of _ _ _ h.0 (accept-all xs c h.1)
 
-  reject-all : (xs : List Cell) (c : ℕ) → All Of xs → All Of (reject xs c)
+  reject-all : (xs : List Cell) (c : ℕ) → AllByRecursion Of xs → AllByRecursion Of (reject xs c)
   unfolding reject
   reject-all [] c h = tt
   reject-all (x ∷ xs) c h = all_or_less Of _ _ _ h.0 (reject-all xs c h.1)
 
-  styled-all : (xs : List Cell) (n s : ℕ) → All Of xs → All Of (styled xs n s)
+  styled-all : (xs : List Cell) (n s : ℕ) → AllByRecursion Of xs → AllByRecursion Of (styled xs n s)
   unfolding styled
   styled-all [] n s h = tt
   styled-all (x ∷ xs) zero s h = h
   styled-all (x ∷ xs) (suc n) s h = (h.0, styled-all xs n s h.1)
 
-  rewritten-all : (p : Paper) (c : Call) → ((a i s : ℕ) (ls : List ℕ) → c ≡ put a i s ls → All P ls) → All Of p.cells → All Of (rewritten p c).cells
+  rewritten-all : (p : Paper) (c : Call) → ((a i s : ℕ) (ls : List ℕ) → c ≡ put a i s ls → AllByRecursion P ls) → AllByRecursion Of p.cells → AllByRecursion Of (rewritten p c).cells
   unfolding rewritten
   rewritten-all p (put a i s ls) f h =
       All-append Of _ _ (All-take Of i _ h) (All-append Of _ _ (new-cells-all ls s _ (f a i s ls refl)) (All-drop Of i _ h))
@@ -69,19 +69,19 @@ module _ (P : ℕ → Type 0) where
   rewritten-all p (save i n) f h = h
 
   abbrev Of-before : Before → Type 0
-  Of-before b = All Of b.paper.cells
+  Of-before b = AllByRecursion Of b.paper.cells
 
   record Of-desk (d : Desk) : Type 0 where
-    now : All Of d.now.cells
-    past : All Of-before d.past
-    future : All Of-before d.future
+    now : AllByRecursion Of d.now.cells
+    past : AllByRecursion Of-before d.past
+    future : AllByRecursion Of-before d.future
 
-  undone-all : (d : Desk) (bs : List Before) → Of-desk d → All Of-before bs → Of-desk (undone d bs)
+  undone-all : (d : Desk) (bs : List Before) → Of-desk d → AllByRecursion Of-before bs → Of-desk (undone d bs)
   unfolding undone
   undone-all d [] k h = k
   undone-all d (b ∷ bs) k h = record { now = h.0; past = h.1; future = (k.now, k.future) }
 
-  redone-all : (d : Desk) (bs : List Before) → Of-desk d → All Of-before bs → Of-desk (redone d bs)
+  redone-all : (d : Desk) (bs : List Before) → Of-desk d → AllByRecursion Of-before bs → Of-desk (redone d bs)
   unfolding redone
   redone-all d [] k h = k
   redone-all d (b ∷ bs) k h = record { now = h.0; past = (k.now, k.past); future = h.1 }
@@ -101,7 +101,7 @@ module _ (P : ℕ → Type 0) where
   moved_all l d (change c) k = k
   moved_all l d (save i n) k = k
 
-  after-all : (l : Limits) (d : Desk) (c : Call) → ((a i s : ℕ) (ls : List ℕ) → c ≡ put a i s ls → turned l d c ≡ 0 → All P ls) → Of-desk d → Of-desk (after l d c)
+  after-all : (l : Limits) (d : Desk) (c : Call) → ((a i s : ℕ) (ls : List ℕ) → c ≡ put a i s ls → turned l d c ≡ 0 → AllByRecursion P ls) → Of-desk d → Of-desk (after l d c)
   after-all l d c f k =
       by_test (eqb (turned l d c) 0) (changed l d c) d Of-desk
       (λ t.
@@ -116,7 +116,7 @@ module _ (P : ℕ → Type 0) where
       (λ _. k)
 
   ran-all : (l : Limits) (d : Desk) (cs : List Call) →
-      ((before later : List Call) (a i s : ℕ) (ls : List ℕ) → cs ≡ before ++ (put a i s ls ∷ later) → turned l (ran l d before) (put a i s ls) ≡ 0 → All P ls) →
+      ((before later : List Call) (a i s : ℕ) (ls : List ℕ) → cs ≡ before ++ (put a i s ls ∷ later) → turned l (ran l d before) (put a i s ls) ≡ 0 → AllByRecursion P ls) →
       Of-desk d → Of-desk (ran l d cs)
   unfolding ran
   ran-all l d [] f k = k
@@ -129,7 +129,7 @@ unfolding NothingFromNowhere
 nothing_from_nowhere l cs =
     (ran-all (PutBy l cs) l new_desk cs
     (λ before later a i s ls e t.
-    All-weaker (Has ls) (PutBy l cs)
+    All-weaker (ContainsAt ls) (PutBy l cs)
     (λ x h. record { before = before; author = a; place = i; style = s; typed = ls; later = later; calls = e; done = t; has = h })
     ls (all_has_itself ls))
     (record { now = tt; past = tt; future = tt })).now

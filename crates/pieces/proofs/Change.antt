@@ -5,7 +5,7 @@ use Rattle.std.proofs.lemmas.Bool.{cases_order, cases_eq}
 use Rattle.model.specs.Paper.{Cell}
 use Rattle.slots.specs.Cells.{cells_at, Kept}
 use Rattle.slots.proofs.Words.{length_cells, kept-cells-below, kept-cells-above, kept-drop}
-use Rattle.std.specs.List.{AllByRecursion as All}
+use Rattle.std.specs.List.{AllByRecursion}
 use Rattle.std.proofs.ByRecursion.{All-append, All-take, All-drop}
 use Rattle.pieces.specs.Marks.{Has, Marks, Grown}
 use Rattle.pieces.specs.Store.{slot, used, piece, strung, cells_of, before, Marked, Order, Frame}
@@ -147,19 +147,19 @@ replaced_here c p d q s k o n t ys w l m e le f h =
 
 -- a piece keeps its marks where its slot stays and no set has lost a mark
 pub carried : (p r : List ℕ) (s : ℕ) → Order p s → ((k : ℕ) → k < s → slot r k ≡ slot p k) → ((i m : ℕ) → i < 2048 → Has p i m → Has r i m)
-    → (k : ℕ) → k < s → (xs : List Cell) → All (Marks p (slot p k)) xs → All (Marks r (slot r k)) xs
+    → (k : ℕ) → k < s → (xs : List Cell) → AllByRecursion (Marks p (slot p k)) xs → AllByRecursion (Marks r (slot r k)) xs
 carried p r s o slots has k l xs all =
     let a = o.inside k l in
     let b = o.most in
     rw (slots k l) (marks_moved p r (slot p k) (slot p k) xs (λ m. has (slot p k) m (omega arith)) all)
 
-all_replaced : (P : Cell → Type 0) (xs : List Cell) (o n : ℕ) (ys : List Cell) → All P xs → All P ys → All P (replaced xs o n ys)
+all_replaced : (P : Cell → Type 0) (xs : List Cell) (o n : ℕ) (ys : List Cell) → AllByRecursion P xs → AllByRecursion P ys → AllByRecursion P (replaced xs o n ys)
 all_replaced P xs o n ys a b =
     All-append P (take o xs) (ys ++ drop (o + n) xs) (All-take P o xs a) (All-append P ys (drop (o + n) xs) b (All-drop P (o + n) xs a))
 
 -- the sets after a change of one piece
 pub changed_marked : (c p d q : List ℕ) (s k o n : ℕ) (ys : List Cell) → Order p s → k < s → Marked c p s
-    → Changed c p d q s k (replaced (piece c p k) o n ys) → All (Marks q (slot q k)) ys → Marked d q s
+    → Changed c p d q s k (replaced (piece c p k) o n ys) → AllByRecursion (Marks q (slot q k)) ys → Marked d q s
 changed_marked c p d q s k o n ys w l mk h new x y =
     elim (cases_eq x k) [
       | inl e ↦ rw e (rw h.here
@@ -175,7 +175,7 @@ shifted_marked : (c p d q : List ℕ) (s i j o n : ℕ) → Order p s → i < s 
 shifted_marked c p d q s i j o n w a b slots has both target source others mk x y =
     let keeps = carried p q s w slots has in
     let P = Marks q (slot q i) in
-    let taken : All P (piece c p j) = rw (slots i a) (marks_moved p q (slot p j) (slot p i) (piece c p j) both (mk j b)) in
+    let taken : AllByRecursion P (piece c p j) = rw (slots i a) (marks_moved p q (slot p j) (slot p i) (piece c p j) both (mk j b)) in
     elim (cases_eq x i) [
       | inl e ↦ rw e (rw target (All-append P (piece c p i) (take n (drop o (piece c p j))) (keeps i a (piece c p i) (mk i a))
           (All-take P n (drop o (piece c p j)) (All-drop P o (piece c p j) taken))))

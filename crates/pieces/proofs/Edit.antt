@@ -6,7 +6,7 @@ use Rattle.model.specs.Paper.{Cell}
 use Rattle.slots.specs.Cells.{cell_at, cells_at, Kept}
 use Rattle.slots.proofs.Words.{cells_split}
 use Rattle.tree.specs.Tree.{Sums}
-use Rattle.std.specs.List.{AllByRecursion as All}
+use Rattle.std.specs.List.{AllByRecursion}
 use Rattle.pieces.specs.Marks.{Marks, with_set, noted_cells, Beside, Grown}
 use Rattle.pieces.specs.Store.{slot, used, piece, cells_of, before, Marked, Order, Store, Frame, Edited}
 use Rattle.pieces.specs.Edits.{replaced, Changed, Cut}
@@ -23,7 +23,7 @@ store_after c p d q s t f o u mk =
 
 -- cells of one piece are replaced
 pub edited : (c p d q : List ℕ) (s k o n : ℕ) (ys : List Cell) → Store c p s → k < s → o + n ≤ used p k
-    → Changed c p d q s k (replaced (piece c p k) o n ys) → Sums (drop 2048 q) → All (Marks q (slot q k)) ys
+    → Changed c p d q s k (replaced (piece c p k) o n ys) → Sums (drop 2048 q) → AllByRecursion (Marks q (slot q k)) ys
     → Edited c p d q s (replaced (cells_of c p s) (before p k + o) n ys)
 edited c p d q s k o n ys t l m h u mk =
     record { store = store_after c p d q s t h.frame h.order u (changed_marked c p d q s k o n ys t.table.order l t.marked h mk); frame = h.frame; text = changed_text c p d q s k o n ys l m h }
@@ -61,7 +61,7 @@ set_replaced t i x l = rw add-one (sym (set_split t i x l))
 -- a cut, and then cells at the end of the first part and at the front of the second
 pub inserted_twice : (c p d q e r f t : List ℕ) (s k o : ℕ) (a b : List Cell) → Store c p s → k + 1 < s → o ≤ used p k → Cut c p d q s k o
     → Changed d q e r s k (replaced (piece d q k) o 0 a) → Changed e r f t s (k + 1) (replaced (piece e r (k + 1)) 0 0 b) → Sums (drop 2048 t)
-    → All (Marks r (slot r k)) a → All (Marks t (slot t (k + 1))) b
+    → AllByRecursion (Marks r (slot r k)) a → AllByRecursion (Marks t (slot t (k + 1))) b
     → Edited c p f t s (replaced (cells_of c p s) (before p k + o) 0 (a ++ b))
 inserted_twice c p d q e r f t s k o a b st l m h g i u ma mb =
     let fr = frame_both c p d q f t s h.same.frame (frame_both d q e r f t s g.frame i.frame) in
@@ -190,7 +190,7 @@ remarked c p q s k t l e =
     let new = cells_noted p' i (piece c p k) (omega arith) (omega arith) in
     let g : Grown p' q = rw e new.0 in
     let b = beside_both p p' q b' g.beside in
-    let here : All (Marks q i) (piece c p k) = rw e new.1 in (
+    let here : AllByRecursion (Marks q i) (piece c p k) = rw e new.1 in (
       b,
       beside-store c p q s t b (λ x y.
           let a = o.inside x y in

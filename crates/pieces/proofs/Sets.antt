@@ -1,7 +1,7 @@
 -- Sets of marks: bits of words, marks added, and two sets joined.
 use Rattle.std.proofs.Common.{◌≡◌, ℕ, ◌+◌, ◌*◌, ◌/◌, ◌%◌, ◌^◌, ◌<◌, ◌≤◌, max, true, false, ◌≢◌, List, [], ◌∷◌, ◌++◌, length, get_or, drop, set, sym, refl, ap, ◌∙◌, inl, inr, one-mul, arith}
 use lib.Bits.{bit_or, or_step}
-use Rattle.std.specs.List.{AllByRecursion as All}
+use Rattle.std.specs.List.{AllByRecursion}
 use Rattle.std.proofs.lemmas.Nat.{or_shr, or_comm, shl-shr, one_shl}
 use Rattle.std.proofs.ByRecursion.{All-weaker}
 use Rattle.std.proofs.lemmas.List.{length-set, get_or-set_same, get_or-set_other, drop-set-lt, get_or-drop, length-drop}
@@ -129,7 +129,7 @@ noted_next c p q r t i from j x d e f g =
     g ∙ ap (λ z. noted z i x.struck) (f ∙ ap (λ z. noted z i x.put_in) d) ∙ sym (noted_more p i xs x)
     ∙ ap (λ y. noted_cells p i (xs ++ (y ∷ []))) e ∙ sym (ap (noted_cells p i) (cells_more c from j))
 
-pub cells_noted : (p : List ℕ) (i : ℕ) (xs : List Cell) → i < 2048 → 10240 ≤ length p → Grown p (noted_cells p i xs) × All (Marks (noted_cells p i xs) i) xs
+pub cells_noted : (p : List ℕ) (i : ℕ) (xs : List Cell) → i < 2048 → 10240 ≤ length p → Grown p (noted_cells p i xs) × AllByRecursion (Marks (noted_cells p i xs) i) xs
 unfolding noted_cells
 cells_noted p i [] l w = (grown_none p, tt)
 cells_noted p i (x ∷ xs) l w =
@@ -154,7 +154,7 @@ cells_noted p i (x ∷ xs) l w =
 
 -- the marks of cells added to the set of piece k
 pub piece_noted : (p q : List ℕ) (k : ℕ) (xs : List Cell) → k < 2048 → get_or p k 0 < 2048 → 10240 ≤ length p → q ≡ noted_cells p (get_or p k 0) xs
-    → Grown p q × All (Marks q (get_or q k 0)) xs
+    → Grown p q × AllByRecursion (Marks q (get_or q k 0)) xs
 piece_noted p q k xs a l w e =
     let h = cells_noted p (get_or p k 0) xs l w in
     let g : Grown p q = rw e h.0 in
@@ -169,7 +169,7 @@ cell_noted p q r k x a l w e f =
     (h.0, h.1.0)
 
 -- what a set that has grown, or one that has taken over another, has
-pub marks_moved : (p q : List ℕ) (i j : ℕ) (xs : List Cell) → ((m : ℕ) → Has p i m → Has q j m) → All (Marks p i) xs → All (Marks q j) xs
+pub marks_moved : (p q : List ℕ) (i j : ℕ) (xs : List Cell) → ((m : ℕ) → Has p i m → Has q j m) → AllByRecursion (Marks p i) xs → AllByRecursion (Marks q j) xs
 marks_moved p q i j xs h all =
     All-weaker (Marks p i) (Marks q j) (λ x m. record { put_in = λ l. h x.put_in (m.put_in l); struck = λ l. h x.struck (m.struck l) }) xs all
 
@@ -184,7 +184,7 @@ has_not p i m e h =
     true_false : true ≡ false → ⊥
     true_false e = let z : ◌≡◌ {A = ℕ} 0 1 = cc in omega arith
 
-pub lacks : (p : List ℕ) (i m : ℕ) (xs : List Cell) → 0 < m → has p i m ≡ false → All (Marks p i) xs → All (Lacks m) xs
+pub lacks : (p : List ℕ) (i m : ℕ) (xs : List Cell) → 0 < m → has p i m ≡ false → AllByRecursion (Marks p i) xs → AllByRecursion (Lacks m) xs
 lacks p i m xs some e all =
     All-weaker (Marks p i) (Lacks m)
     (λ x h.

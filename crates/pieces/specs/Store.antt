@@ -3,7 +3,7 @@
 -- that one which is not used has no cells. The text is all pieces, one after the other. Words 6144 + i and 8192 + i are the set of marks of slot i, which has
 -- at least the marks of the piece in it.
 use Rattle.std.specs.Prelude.{◌≡◌, ℕ, zero, suc, ◌+◌, ◌-◌, ◌*◌, ◌<◌, ◌≤◌, List, [], ◌++◌, length, drop, replicate, slice_index}
-use Rattle.std.specs.List.{range_with_len, AllByRecursion as All}
+use Rattle.std.specs.List.{range_with_len, AllByRecursion}
 use Rattle.model.specs.Paper.{Cell}
 use Rattle.slots.specs.Cells.{cells_at}
 use Rattle.tree.specs.Tree.{Sums}
@@ -68,7 +68,7 @@ pub record Table (p : List ℕ) (s : ℕ) : Type 0 where
 
 -- the set of each piece has the marks of its cells
 abbrev pub Marked : List ℕ → List ℕ → ℕ → Type 0
-Marked c p s = (k : ℕ) → k < s → All (Marks p (slot p k)) (piece c p k)
+Marked c p s = (k : ℕ) → k < s → AllByRecursion (Marks p (slot p k)) (piece c p k)
 
 -- what always holds of a store of s slots
 pub record Store (c p : List ℕ) (s : ℕ) : Type 0 where

@@ -5,7 +5,7 @@
 
 ghost use Rattle.std.specs.Prelude.{◌≡◌, ℕ, ◌+◌, ◌-◌, ◌*◌, ◌/◌, ◌<◌, ◌≤◌, false, ◌≢◌, List, [], ◌++◌, length, take, drop, set, replicate, slice_index_or, slice_set};
 ghost use Rattle.model.specs.Values.{cell_of};
-ghost use Rattle.std.specs.List.{range_with_len, AllByRecursion as All};
+ghost use Rattle.std.specs.List.{range_with_len, AllByRecursion};
 ghost use Rattle.pieces.specs.Store.{used as uses, slot, number, piece, cells_of, before, no_cell, cleared_cells, cleared_words, Edited, Gap, Located, Order, Table, Store};
 ghost use Rattle.pieces.specs.Marks.{has, noted, noted_cells, with_set, Beside, Grown, Has, Joined, Lacks, Marks};
 ghost use Rattle.pieces.specs.Edits.{replaced, Changed, Cut, Filled, Packed, Recounted, Resized, Rotated, SameText, Shifted};
@@ -118,7 +118,7 @@ pub fn may_have(p: &[u32], s: usize, k: usize, mark: u32) -> bool
     requires here { k < s }
     requires some { 0 < mark }
     ensures is { result ≡ has p.now (slot p.now k) mark }
-    ensures lacks { result ≡ false → (c : List ℕ) → Store c p.now s → All (Lacks mark) (piece c p.now k) }
+    ensures lacks { result ≡ false → (c : List ℕ) → Store c p.now s → AllByRecursion (Lacks mark) (piece c p.now k) }
 {
     let i = p[k] as usize;
     let low = (p[LOW + i] >> (mark % 32)) % 2;
@@ -451,7 +451,7 @@ fn insert_here(
     requires fits { uses p.old k + n ≤ 1024 }
     ensures changed { Changed c.old p.old c.new p.new s k (replaced (piece c.old p.old k) o 0 (cells_at new.now from n)) }
     ensures sums { Sums (drop 2048 p.new) }
-    ensures marks { All (Marks p.new (slot p.new k)) (cells_at new.now from n) }
+    ensures marks { AllByRecursion (Marks p.new (slot p.new k)) (cells_at new.now from n) }
 {
     insert_cells(c, p, s, k, o, new, from, n);
     let more = used(p, k) + n;

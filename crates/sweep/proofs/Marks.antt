@@ -1,6 +1,6 @@
 -- How many cells have the mark of a change.
 use Rattle.std.proofs.Common.{◌≡◌, ℕ, suc, ◌+◌, ◌*◌, Bool, true, false, ◌||◌, eqb, List, [], ◌∷◌, ◌++◌, sym, refl, ap, ◌∙◌, add-zero, add_assoc, zero-add, arith}
-use Rattle.std.specs.List.{AllByRecursion as All}
+use Rattle.std.specs.List.{AllByRecursion}
 use Rattle.std.proofs.lemmas.Bool.{ne_eqb}
 use Rattle.model.specs.Paper.{pick, Cell, touched}
 use Rattle.slots.specs.Cells.{cell_at, cells_at}
@@ -32,7 +32,7 @@ pub touched_without : (w : List ℕ) (at i c n : ℕ) → mark_in (cell_at w (at
 touched_without w at i c n e h = let m = touched_more w at i c in let o = ap (λ t. pick {A = ℕ} t 1 0) e in omega arith
 
 -- a piece without the mark
-pub touched_lacks : (c : ℕ) (xs : List Cell) → All (Lacks (suc c)) xs → touched xs c ≡ 0
+pub touched_lacks : (c : ℕ) (xs : List Cell) → AllByRecursion (Lacks (suc c)) xs → touched xs c ≡ 0
 unfolding touched
 touched_lacks c [] all = refl
 touched_lacks c (x ∷ xs) all =

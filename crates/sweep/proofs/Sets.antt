@@ -1,6 +1,6 @@
 -- A sweep and the sets of marks.
 use Rattle.std.proofs.Common.{◌≡◌, ℕ, suc, ◌+◌, ◌<◌, ◌≤◌, Bool, true, false, eqb, List, [], ◌∷◌, length, take, drop, refl, ap, arith}
-use Rattle.std.specs.List.{AllByRecursion as All}
+use Rattle.std.specs.List.{AllByRecursion}
 use Rattle.std.proofs.ByRecursion.{All-append, All-take, All-drop}
 use Rattle.std.proofs.lemmas.Bool.{ne_eqb}
 use Rattle.model.specs.Paper.{pick, Cell, Change}
@@ -27,11 +27,11 @@ changed_marks (Accept c) p i x h m = record { put_in = pick_has p i 0 x.put_in (
 changed_marks (Reject c) p i x h m = record { put_in = m.put_in; struck = pick_has p i 0 x.struck (eqb x.struck (suc c)) (λ l. absurd (omega arith)) m.struck }
 changed_marks (Style s) p i x h m = record { put_in = m.put_in; struck = m.struck }
 
-pick_all : (P : Cell → Type 0) (t : Bool) (x : Cell) → P x → All P (pick t [] (x ∷ []))
+pick_all : (P : Cell → Type 0) (t : Bool) (x : Cell) → P x → AllByRecursion P (pick t [] (x ∷ []))
 pick_all P true x h = tt
 pick_all P false x h = (h, tt)
 
-pub swept_marks : (a : Action) (cs : List Change) (p : List ℕ) (i : ℕ) → Noted a p i → (xs : List Cell) → All (Marks p i) xs → All (Marks p i) (swept a cs xs)
+pub swept_marks : (a : Action) (cs : List Change) (p : List ℕ) (i : ℕ) → Noted a p i → (xs : List Cell) → AllByRecursion (Marks p i) xs → AllByRecursion (Marks p i) (swept a cs xs)
 unfolding swept
 swept_marks a cs p i h [] all = tt
 swept_marks a cs p i h (x ∷ xs) all =
@@ -48,13 +48,13 @@ marked_after c p d q s k o n a cs w l mk noted h =
     (swept_marks a cs q (slot q k) noted (take n (drop o xs)) (All-take P n (drop o xs) (All-drop P o xs had)))
 
 -- a sweep for a mark that no cell has
-pub accept_lacks : (c : ℕ) (cs : List Change) (xs : List Cell) → All (Lacks (suc c)) xs → swept (Accept c) cs xs ≡ xs
+pub accept_lacks : (c : ℕ) (cs : List Change) (xs : List Cell) → AllByRecursion (Lacks (suc c)) xs → swept (Accept c) cs xs ≡ xs
 unfolding swept
 accept_lacks c cs [] all = refl
 accept_lacks c cs (x ∷ xs) all =
     rw (ne_eqb x.put_in (suc c) all.0.put_in, ne_eqb x.struck (suc c) all.0.struck) (ap (λ ys. x ∷ ys) (accept_lacks c cs xs all.1))
 
-pub reject_lacks : (c : ℕ) (cs : List Change) (xs : List Cell) → All (Lacks (suc c)) xs → swept (Reject c) cs xs ≡ xs
+pub reject_lacks : (c : ℕ) (cs : List Change) (xs : List Cell) → AllByRecursion (Lacks (suc c)) xs → swept (Reject c) cs xs ≡ xs
 unfolding swept
 reject_lacks c cs [] all = refl
 reject_lacks c cs (x ∷ xs) all =

@@ -10,7 +10,7 @@ ghost use Rattle.pieces.specs.Marks.{Beside, Lacks};
 ghost use Rattle.pieces.specs.Store.{cells_of, Edited, Frame, Order, Store, piece, slot, used};
 ghost use Rattle.slots.specs.Cells.{Kept, cell_at, cells_at};
 ghost use Rattle.sweep.specs.Sweep.{changed as afterwards, fate as fate-of, goes as is-gone, left_of, mark_of, Noted, OneMeaning, swept, swept_run, Writable};
-ghost use Rattle.std.specs.List.{AllByRecursion as All};
+ghost use Rattle.std.specs.List.{AllByRecursion};
 ghost use Rattle.tree.specs.Tree.{Sums};
 
 use model::Cell;
@@ -299,7 +299,7 @@ pub fn sweep_run(c: &mut [u32], w: &mut [u32], at: Places, place: usize, n: usiz
 fn may_have(p: &[u32], s: usize, k: usize, change: u32) -> bool
     requires order { Order p.now s }
     requires here { k < s }
-    ensures { result ≡ false → (c : List ℕ) → Store c p.now s → All (Lacks (suc change)) (piece c p.now k) }
+    ensures { result ≡ false → (c : List ℕ) → Store c p.now s → AllByRecursion (Lacks (suc change)) (piece c p.now k) }
 {
     if change == u32::MAX {
         return true;

@@ -1,6 +1,6 @@
 -- The answers to the file of a list of calls are those of the model. Assumes nothing.
 use Rattle.std.proofs.Common.{◌≡◌, ℕ, ◌+◌, ◌%◌, ◌^◌, ◌<◌, Bool, true, false, not, ◌&&◌, eqb, ltb, List, [], ◌∷◌, ◌++◌, codes, decimal, refl, ap, ◌∙◌, arith}
-use Rattle.std.specs.List.{AllByRecursion as All}
+use Rattle.std.specs.List.{AllByRecursion}
 use Rattle.std.proofs.lemmas.Fmt.{decimal_by_steps}
 use Rattle.std.proofs.ByRecursion.{All-append}
 use Rattle.std.proofs.lemmas.Bool.{and_parts, ltb-true, lt-ltb, ne_eqb, eqb-false, not-true}
@@ -17,7 +17,7 @@ abbrev Other : ℕ → Type 0
 Other x = x ≡ 10 → ⊥
 
 abbrev Free : List ℕ → Type 0
-Free xs = All Other xs
+Free xs = AllByRecursion Other xs
 
 plain : List ℕ → Bool
 plain [] = true

@@ -1,6 +1,6 @@
 -- Every letter of a paper that calls made is a byte, so that every answer of its desk can be told. Assumes nothing.
 use Rattle.std.proofs.Common.{◌≡◌, ℕ, zero, suc, ◌+◌, ◌<◌, true, ◌&&◌, ◌||◌, eqb, ltb, leb, List, [], ◌∷◌, ◌++◌, length, take, drop, sym, refl, ap, ◌∙◌, subst, ⊎_elim, arith}
-use Rattle.std.specs.List.{AllByRecursion as All}
+use Rattle.std.specs.List.{AllByRecursion}
 use Rattle.std.proofs.ByRecursion.{All-take, All-drop, all-has, All-weaker}
 use Rattle.std.proofs.lemmas.Bool.{and_parts, or_cases, eqb-true, leb-true, lt-ltb}
 use Rattle.model.specs.Paper.{pick, Cell, seen, view}
@@ -21,7 +21,7 @@ letter_byte : (l : ℕ) → (eqb l 10 || (leb 32 l && leb l 126)) ≡ true → l
 letter_byte l h =
     ⊎_elim (λ e. omega (arith, eqb-true l 10 e)) (λ e. omega (arith, leb-true l 126 (and_parts (leb 32 l) (leb l 126) e).1)) (or_cases (eqb l 10) (leb 32 l && leb l 126) h)
 
-letters_byte : (ls : List ℕ) → good_letters ls ≡ true → All (λ l. l < 256) ls
+letters_byte : (ls : List ℕ) → good_letters ls ≡ true → AllByRecursion (λ l. l < 256) ls
 unfolding good_letters
 letters_byte [] h = tt
 letters_byte (l ∷ ls) h =
@@ -44,12 +44,12 @@ put_byte l cs x p =
     all-has (λ l. l < 256) p.typed x (letters_byte p.typed r.0) p.has
 
 -- of rows
-view_all : (P : Cell → Type 0) (k : ℕ) (xs : List Cell) → All P xs → All P (view k xs)
+view_all : (P : Cell → Type 0) (k : ℕ) (xs : List Cell) → AllByRecursion P xs → AllByRecursion P (view k xs)
 unfolding view
 view_all P k [] h = tt
-view_all P k (x ∷ xs) h = by_test (seen k x) (x ∷ view k xs) (view k xs) (All P) (λ _. (h.0, view_all P k xs h.1)) (λ _. view_all P k xs h.1)
+view_all P k (x ∷ xs) h = by_test (seen k x) (x ∷ view k xs) (view k xs) (AllByRecursion P) (λ _. (h.0, view_all P k xs h.1)) (λ _. view_all P k xs h.1)
 
-rows_all : (P : Cell → Type 0) (n w : ℕ) (xs : List Cell) → All P xs → All (All P) (rows_in n w xs)
+rows_all : (P : Cell → Type 0) (n w : ℕ) (xs : List Cell) → AllByRecursion P xs → AllByRecursion (AllByRecursion P) (rows_in n w xs)
 unfolding rows_in
 rows_all P zero w xs h = tt
 rows_all P (suc n) w [] h = tt
@@ -57,18 +57,18 @@ rows_all P (suc n) w (x ∷ xs) h =
     let c : Cut = cut w (x ∷ xs) in
     (All-take P c.long (x ∷ xs) h, rows_all P n w (drop (c.long + c.skips) (x ∷ xs)) (All-drop P (c.long + c.skips) (x ∷ xs) h))
 
-cells_bytes : (xs : List Cell) → All Byte xs → byte_letters xs ≡ true
+cells_bytes : (xs : List Cell) → AllByRecursion Byte xs → byte_letters xs ≡ true
 unfolding byte_letters
 cells_bytes [] h = refl
 cells_bytes (x ∷ xs) h = rw (lt-ltb x.letter 256 h.0) (cells_bytes xs h.1)
 
-rows_bytes : (rs : List (List Cell)) → All (All Byte) rs → byte_rows rs ≡ true
+rows_bytes : (rs : List (List Cell)) → AllByRecursion (AllByRecursion Byte) rs → byte_rows rs ≡ true
 unfolding byte_rows
 rows_bytes [] h = refl
 rows_bytes (r ∷ rs) h = rw (cells_bytes r h.0) (rows_bytes rs h.1)
 
 -- of answers
-told_shows : (d : Desk) (c : Call) → All Byte d.now.cells → showable (told d c) ≡ true
+told_shows : (d : Desk) (c : Call) → AllByRecursion Byte d.now.cells → showable (told d c) ≡ true
 unfolding told showable
 told_shows d (put a i s ls) h = refl
 told_shows d (strikes a i n) h = refl
@@ -79,7 +79,7 @@ told_shows d undo h = refl
 told_shows d redo h = refl
 told_shows d (show k w r n) h =
     let v : List Cell = view k d.now.cells in
-    rows_bytes (take n (drop r (rows w v))) (All-take (All Byte) n (drop r (rows w v)) (All-drop (All Byte) r (rows w v) (rows_all Byte (length v) w v (view_all Byte k d.now.cells h))))
+    rows_bytes (take n (drop r (rows w v))) (All-take (AllByRecursion Byte) n (drop r (rows w v)) (All-drop (AllByRecursion Byte) r (rows w v) (rows_all Byte (length v) w v (view_all Byte k d.now.cells h))))
 told_shows d (find k i ls) h = refl
 told_shows d (count k) h = refl
 told_shows d (change c) h = refl
@@ -92,9 +92,9 @@ refusal_shows n i = refl
 pub answer_shows : NothingFromNowhere → (l : Limits) (d : Desk) (c : Call) → Reached l d → showable (answer l d c) ≡ true
 unfolding NothingFromNowhere
 answer_shows law l d c reached =
-    let bytes : All Byte (ran l new_desk reached.0).now.cells =
+    let bytes : AllByRecursion Byte (ran l new_desk reached.0).now.cells =
     All-weaker (λ (x : Cell). PutBy l reached.0 x.letter) Byte (λ x p. put_byte l reached.0 x.letter p) (ran l new_desk reached.0).now.cells (law l reached.0) in
-    let here : All Byte d.now.cells = subst (λ (e : Desk). All Byte e.now.cells) (sym reached.1) bytes in
+    let here : AllByRecursion Byte d.now.cells = subst (λ (e : Desk). AllByRecursion Byte e.now.cells) (sym reached.1) bytes in
     by_test (eqb (turned l d c) 0) (told d c) (refused (turned l d c) (place c (turned l d c))) (λ (a : Answer). showable a ≡ true)
     (λ _. told_shows d c here) (λ _. refusal_shows (turned l d c) (place c (turned l d c)))
 

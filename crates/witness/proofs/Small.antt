@@ -1,6 +1,6 @@
 -- Words that fit four bytes: of lists, of cells and of changes, also after any call. Assumes nothing.
 use Rattle.std.proofs.Common.{◌≡◌, ℕ, zero, suc, ◌+◌, ◌*◌, ◌<◌, Bool, true, ◌&&◌, eqb, ltb, List, [], ◌∷◌, ◌++◌, length, get_or, replicate, arith}
-use Rattle.std.specs.List.{AllByRecursion as All}
+use Rattle.std.specs.List.{AllByRecursion}
 use Rattle.std.proofs.ByRecursion.{All-append, All-push, All-set, All-take, All-drop}
 use Rattle.std.proofs.lemmas.Bool.{ltb-true, and_parts}
 use Rattle.model.specs.Paper.{pick, Cell, Change, Paper, new_cells, strike, accept, reject, styled, cells_written, changes_written}
@@ -35,11 +35,11 @@ OfChange x = Word x.author × Word x.became
 
 -- a paper whose numbers fit four bytes
 pub record OfPaper (p : Paper) : Type 0 where
-  pub cells : All OfCell p.cells
-  pub changes : All OfChange p.changes
+  pub cells : AllByRecursion OfCell p.cells
+  pub changes : AllByRecursion OfChange p.changes
 
 -- written
-pub cells_small : (xs : List Cell) → All OfCell xs → Small (cells_written xs)
+pub cells_small : (xs : List Cell) → AllByRecursion OfCell xs → Small (cells_written xs)
 unfolding cells_written
 cells_small [] h i = omega arith
 cells_small (x ∷ xs) h zero = h.0.0
@@ -48,7 +48,7 @@ cells_small (x ∷ xs) h (suc (suc zero)) = h.0.2
 cells_small (x ∷ xs) h (suc (suc (suc zero))) = h.0.3
 cells_small (x ∷ xs) h (suc (suc (suc (suc i)))) = cells_small xs h.1 i
 
-pub changes_small : (xs : List Change) → All OfChange xs → Small (changes_written xs)
+pub changes_small : (xs : List Change) → AllByRecursion OfChange xs → Small (changes_written xs)
 unfolding changes_written
 changes_small [] h i = omega arith
 changes_small (x ∷ xs) h zero = h.0.0
@@ -56,27 +56,27 @@ changes_small (x ∷ xs) h (suc zero) = h.0.1
 changes_small (x ∷ xs) h (suc (suc i)) = changes_small xs h.1 i
 
 -- read
-cells_at_small : (c : List ℕ) → Small c → (a n : ℕ) → All OfCell (cells_at c a n)
+cells_at_small : (c : List ℕ) → Small c → (a n : ℕ) → AllByRecursion OfCell (cells_at c a n)
 unfolding cells_at cell_at
 cells_at_small c h a zero = tt
 cells_at_small c h a (suc n) = ((h (4 * a), h (4 * a + 1), h (4 * a + 2), h (4 * a + 3)), cells_at_small c h (suc a) n)
 
-strung_all : (P : Cell → Type 0) (f : ℕ → List Cell) → ((k : ℕ) → All P (f k)) → (k n : ℕ) → All P (strung f k n)
+strung_all : (P : Cell → Type 0) (f : ℕ → List Cell) → ((k : ℕ) → AllByRecursion P (f k)) → (k n : ℕ) → AllByRecursion P (strung f k n)
 unfolding strung
 strung_all P f h k zero = tt
 strung_all P f h k (suc n) = All-append P (f k) (strung f (suc k) n) (h k) (strung_all P f h (suc k) n)
 
-pub text_small : (c p : List ℕ) → Small c → (k n : ℕ) → All OfCell (strung (piece c p) k n)
+pub text_small : (c p : List ℕ) → Small c → (k n : ℕ) → AllByRecursion OfCell (strung (piece c p) k n)
 unfolding piece
 text_small c p h = strung_all OfCell (piece c p) (λ k. cells_at_small c h _ _)
 
-pub row_small : (w : List ℕ) → Small w → (k n : ℕ) → All OfChange (changes_from w k n)
+pub row_small : (w : List ℕ) → Small w → (k n : ℕ) → AllByRecursion OfChange (changes_from w k n)
 unfolding changes_from
 row_small w h k zero = tt
 row_small w h k (suc n) = ((h (2 * k), h (2 * k + 1)), row_small w h (suc k) n)
 
 -- rewritten: a cell is new, or it has the words of a cell before but for a mark (a new one, or 0) or the style
-new_small : (ls : List ℕ) (s c : ℕ) → all_below 256 ls ≡ true → Word s → Word (suc c) → All OfCell (new_cells ls s c)
+new_small : (ls : List ℕ) (s c : ℕ) → all_below 256 ls ≡ true → Word s → Word (suc c) → AllByRecursion OfCell (new_cells ls s c)
 unfolding new_cells all_below
 new_small [] s c h i j = tt
 new_small (l ∷ ls) s c h i j =
@@ -85,44 +85,44 @@ new_small (l ∷ ls) s c h i j =
     ((omega arith, i, j, omega arith), new_small ls s c parts.1 i j)
 
 -- a cell that goes or stays
-gone_small : (t : Bool) (x : Cell) (xs : List Cell) → OfCell x → All OfCell xs → All OfCell (pick t xs (x ∷ xs))
-gone_small t x xs h k = pick_both (All OfCell) t xs (x ∷ xs) k (h, k)
+gone_small : (t : Bool) (x : Cell) (xs : List Cell) → OfCell x → AllByRecursion OfCell xs → AllByRecursion OfCell (pick t xs (x ∷ xs))
+gone_small t x xs h k = pick_both (AllByRecursion OfCell) t xs (x ∷ xs) k (h, k)
 
-strike_small : (xs : List Cell) (n : ℕ) (cs : List Change) (a c : ℕ) → Word (suc c) → All OfCell xs → All OfCell (strike xs n cs a c)
+strike_small : (xs : List Cell) (n : ℕ) (cs : List Change) (a c : ℕ) → Word (suc c) → AllByRecursion OfCell xs → AllByRecursion OfCell (strike xs n cs a c)
 unfolding strike
 strike_small [] n cs a c j h = tt
 strike_small (x ∷ xs) zero cs a c j h = h
 strike_small (x ∷ xs) (suc n) cs a c j h =
     gone_small _ _ _ (h.0.0, h.0.1, h.0.2, pick_both Word (eqb x.struck 0) (suc c) x.struck j h.0.3) (strike_small xs n cs a c j h.1)
 
-accept_small : (xs : List Cell) (c : ℕ) → All OfCell xs → All OfCell (accept xs c)
+accept_small : (xs : List Cell) (c : ℕ) → AllByRecursion OfCell xs → AllByRecursion OfCell (accept xs c)
 unfolding accept
 accept_small [] c h = tt
 accept_small (x ∷ xs) c h =
     gone_small _ _ _ (h.0.0, h.0.1, pick_both Word (eqb x.put_in (suc c)) 0 x.put_in (omega arith) h.0.2, h.0.3) (accept_small xs c h.1)
 
-reject_small : (xs : List Cell) (c : ℕ) → All OfCell xs → All OfCell (reject xs c)
+reject_small : (xs : List Cell) (c : ℕ) → AllByRecursion OfCell xs → AllByRecursion OfCell (reject xs c)
 unfolding reject
 reject_small [] c h = tt
 reject_small (x ∷ xs) c h =
     gone_small _ _ _ (h.0.0, h.0.1, h.0.2, pick_both Word (eqb x.struck (suc c)) 0 x.struck (omega arith) h.0.3) (reject_small xs c h.1)
 
-styled_small : (xs : List Cell) (n s : ℕ) → Word s → All OfCell xs → All OfCell (styled xs n s)
+styled_small : (xs : List Cell) (n s : ℕ) → Word s → AllByRecursion OfCell xs → AllByRecursion OfCell (styled xs n s)
 unfolding styled
 styled_small [] n s i h = tt
 styled_small (x ∷ xs) zero s i h = h
 styled_small (x ∷ xs) (suc n) s i h = ((h.0.0, i, h.0.2, h.0.3), styled_small xs n s i h.1)
 
 -- one change more, and a change that was decided
-added_small : (cs : List Change) (a : ℕ) → Word a → All OfChange cs → All OfChange (cs ++ (record { author = a; became = 0 } ∷ []))
+added_small : (cs : List Change) (a : ℕ) → Word a → AllByRecursion OfChange cs → AllByRecursion OfChange (cs ++ (record { author = a; became = 0 } ∷ []))
 added_small cs a i h = All-push OfChange cs (record { author = a; became = 0 }) h (i, omega arith)
 
-author_small : (cs : List Change) (c : ℕ) → All OfChange cs → Word (get_or cs c (record { author = 0; became = 0 })).author
+author_small : (cs : List Change) (c : ℕ) → AllByRecursion OfChange cs → Word (get_or cs c (record { author = 0; became = 0 })).author
 author_small [] c h = omega arith
 author_small (x ∷ cs) zero h = h.0.0
 author_small (x ∷ cs) (suc c) h = author_small cs c h.1
 
-became_small : (cs : List Change) (c b : ℕ) → Word b → All OfChange cs → All OfChange (with_became cs c b)
+became_small : (cs : List Change) (c b : ℕ) → Word b → AllByRecursion OfChange cs → AllByRecursion OfChange (with_became cs c b)
 became_small cs c b i h = All-set OfChange cs c _ (author_small cs c h, i) h
 
 word : (n : ℕ) → field n ≡ true → Word n
