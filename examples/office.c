@@ -1,7 +1,7 @@
 /* Opens a desk, writes a sentence, shows it, and prints the refusal of a bad call.
  *
- *   rt staticlib capi
- *   cc -O2 -Iinclude examples/office.c target/staticlib/libcapi.a "$(dirname "$(rt doc)")/../lib/librattle_c.a" -o target/office
+ *   (cd crates/capi && rt lib)
+ *   mkdir -p target && cc -O2 -Iinclude examples/office.c crates/capi/out/libcapi.a -o target/office
  *   target/office
  */
 #include <stdio.h>
