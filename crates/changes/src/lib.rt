@@ -1,7 +1,7 @@
 // The row of changes, two words for each: its author and what became of it.
 #![tactic(auto)]
 
-ghost use Rattle.std.specs.Prelude.{◌≡◌, ℕ, ◌+◌, ◌*◌, ◌<◌, ◌≤◌, List, [], ◌∷◌, ◌++◌, length, slice_set};
+ghost use Rattle.std.specs.Prelude.{◌≡◌, ◌+◌, ◌*◌, ◌<◌, ◌≤◌, [], ◌∷◌, ◌++◌, length, slice_set};
 ghost use Rattle.changes.specs.Row.{change_at, changes_of};
 ghost use Rattle.model.specs.Calls.{with_became};
 ghost use Rattle.model.specs.Values.{change_of};

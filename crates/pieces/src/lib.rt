@@ -3,7 +3,7 @@
 // a slot). Every slot is a piece of the text, an unused one has no cells. Words of `c` past the slots and words of `p` past 10240 are never touched.
 #![tactic(auto)]
 
-ghost use Rattle.std.specs.Prelude.{◌≡◌, ℕ, ◌+◌, ◌-◌, ◌*◌, ◌/◌, ◌<◌, ◌≤◌, false, ◌≢◌, List, [], ◌++◌, length, take, drop, set, replicate, slice_index_or, slice_set};
+ghost use Rattle.std.specs.Prelude.{◌≡◌, ℕ, ◌+◌, ◌-◌, ◌*◌, ◌/◌, ◌<◌, ◌≤◌, false, ◌≢◌, List, [], ◌++◌, length, take, drop, replicate, slice_index_or, slice_set};
 ghost use Rattle.model.specs.Values.{cell_of};
 ghost use Rattle.std.specs.List.{range_with_len, AllByRecursion};
 ghost use Rattle.pieces.specs.Store.{used as uses, slot, number, piece, cells_of, before, no_cell, cleared_cells, cleared_words, Edited, Gap, Located, Order, Table, Store};

@@ -1,5 +1,5 @@
 // Striking out, styles, accepting, rejecting, and asking for a change.
-ghost use Rattle.std.specs.Prelude.{◌≡◌, ℕ, ◌+◌, ◌*◌, ◌<◌, ◌≤◌, true, false, length, drop, Some, None, nat_le, slice_index};
+ghost use Rattle.std.specs.Prelude.{◌≡◌, ◌+◌, ◌*◌, ◌<◌, ◌≤◌, true, false, length, drop, Some, None, nat_le, slice_index};
 ghost use Rattle.changes.specs.Row.{change_at};
 ghost use Rattle.codec.specs.Values.{told};
 ghost use Rattle.model.specs.Paper.{touched as touches};

@@ -2,7 +2,7 @@
 // comes as bytes and writes the answer as bytes. What memory holds, and what each promises of it, is in specs/.
 #![tactic(auto)]
 
-ghost use Rattle.std.specs.Prelude.{◌≡◌, ℕ, ◌+◌, ◌*◌, ◌<◌, ◌≤◌, min, true, false, [], ◌∷◌, ◌++◌, length, take, drop, replicate, Some, None, nat_le, slice_index};
+ghost use Rattle.std.specs.Prelude.{◌≡◌, ◌+◌, ◌*◌, ◌<◌, ◌≤◌, min, true, false, [], ◌∷◌, ◌++◌, length, take, drop, replicate, Some, None, nat_le, slice_index};
 ghost use Rattle.model.specs.Paper.{new_cells};
 ghost use Rattle.pieces.specs.Store.{Table, before};
 ghost use Rattle.session.specs.Acts.{Acted, Rowed, Said, Wrote, allows, row_of, with_cells};

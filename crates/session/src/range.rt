@@ -1,6 +1,6 @@
 // What refusal 2 is about: the numbers and letters of a call.
 ghost use Rattle.model.specs.Calls.{good_letters};
-ghost use Rattle.session.specs.Range.{counted as all-counted, in_range};
+ghost use Rattle.session.specs.Range.{counted as all_counted, in_range};
 ghost use Rattle.std.specs.Prelude.{◌≡◌, ◌&&◌, ◌||◌, ◌==◌, nat_le};
 
 use codec::Call;
@@ -33,7 +33,7 @@ pub fn within(call: Call, letters: &[u8]) -> bool
 
 // At least one, and at most so many.
 fn counted(n: usize, most: usize) -> bool
-    ensures { result ≡ all-counted n most }
+    ensures { result ≡ all_counted n most }
 {
     (1 <= n) & (n <= most)
 }

@@ -9,7 +9,7 @@ ghost use Rattle.pieces.specs.Edits.{Changed, Filled, Resized};
 ghost use Rattle.pieces.specs.Marks.{Beside, Lacks};
 ghost use Rattle.pieces.specs.Store.{cells_of, Edited, Frame, Order, Store, piece, slot, used};
 ghost use Rattle.slots.specs.Cells.{Kept, cell_at, cells_at};
-ghost use Rattle.sweep.specs.Sweep.{changed as afterwards, fate as fate-of, goes as is-gone, left_of, mark_of, Noted, OneMeaning, swept, swept_run, Writable};
+ghost use Rattle.sweep.specs.Sweep.{changed as afterwards, fate as fate_of, goes as is_gone, left_of, mark_of, Noted, OneMeaning, swept, swept_run, Writable};
 ghost use Rattle.std.specs.List.{AllByRecursion};
 ghost use Rattle.tree.specs.Tree.{Sums};
 
@@ -66,7 +66,7 @@ fn cleared(mark: u32, change: u32) -> u32
 // Whether a cell goes.
 fn goes(cell: Cell, action: Action, changes: &[u32], row: usize) -> bool
     requires { 2 * row ≤ length changes.now }
-    ensures { result ≡ is-gone action (changes_of changes.now row) (cell_of cell) }
+    ensures { result ≡ is_gone action (changes_of changes.now row) (cell_of cell) }
 {
     match action {
         Action::Strike { author, .. } => is_of(cell.put_in, author, changes, row),
@@ -106,7 +106,7 @@ fn changed(cell: Cell, action: Action) -> Cell
 fn fate(cell: Cell, action: Action, changes: &[u32], row: usize) -> Option<Cell>
     requires row { 2 * row ≤ length changes.now }
     requires mark { Writable action }
-    ensures { left_of result ≡ fate-of action (changes_of changes.now row) (cell_of cell) }
+    ensures { left_of result ≡ fate_of action (changes_of changes.now row) (cell_of cell) }
 {
     if goes(cell, action, changes, row) {
         None
@@ -130,7 +130,7 @@ fn sweep_cell(
     requires row { 2 * row ≤ length changes.now }
     requires mark { Writable action }
     ensures behind { result ≤ i + 1 }
-    ensures cells { cells_at c.new at result ≡ cells_at c.old at stay ++ fate-of action (changes_of changes.now row) (cell_at c.old (at + i)) }
+    ensures cells { cells_at c.new at result ≡ cells_at c.old at stay ++ fate_of action (changes_of changes.now row) (cell_at c.old (at + i)) }
     ensures kept { Kept c.old c.new at result }
 {
     match fate(slots::read(c, at + i), action, changes, row) {

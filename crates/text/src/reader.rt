@@ -1,6 +1,6 @@
 // A line of text to the bytes of a call. Each part of a line has a function, which takes the place where the part begins and gives the
 // place after it, or the place of the first byte that does not fit.
-ghost use Rattle.std.specs.Prelude.{◌≡◌, ℕ, ◌+◌, ◌-◌, ◌*◌, ◌<◌, ◌≤◌, false, [], ◌∷◌, ◌++◌, length, drop, is_ok, if◌then◌else◌, MatchResult};
+ghost use Rattle.std.specs.Prelude.{◌≡◌, ◌+◌, ◌-◌, ◌*◌, ◌<◌, ◌≤◌, false, [], ◌∷◌, ◌++◌, length, drop, is_ok, if◌then◌else◌, MatchResult};
 ghost use Rattle.model.specs.Paper.{pick};
 ghost use Rattle.codec.specs.Bytes.{word_bytes, words_bytes};
 ghost use Rattle.text.specs.Lines.{literal_in, digits_in, number_in, field_in, numbers_in, head_in, mark_of, letters_in, quoted_in, tail_in, shape_of, Reads, Passes, ReadsFirst, Spells, Parses, Lacks, call_in, line_reading, Makes, Fails, BytesOf, RefusedAt, limits_reading, LimitsRead};

@@ -1,9 +1,9 @@
 // An answer's bytes to a line of text. Each part of an answer has a function, which appends to the line, and takes the place where the
 // part begins and gives the place after it.
-ghost use Rattle.std.specs.Prelude.{◌≡◌, ℕ, ◌+◌, ◌-◌, ◌*◌, ◌<◌, ◌≤◌, true, [], ◌++◌, length, drop, decimal, MatchResult, OnOk};
+ghost use Rattle.std.specs.Prelude.{◌≡◌, ◌+◌, ◌-◌, ◌<◌, ◌≤◌, true, [], ◌++◌, length, drop, decimal, MatchResult, OnOk};
 ghost use Rattle.model.specs.Calls.{Answer};
 ghost use Rattle.codec.specs.Bytes.{answer_bytes};
-ghost use Rattle.text.specs.Lines.{Step, got, Spells, Fails, Lacks};
+ghost use Rattle.text.specs.Lines.{got, Spells, Fails, Lacks};
 ghost use Rattle.text.specs.Shown.{word_at, mark_line, escape_line, cell_line, number_shown, spaced_shown, cell_shown, counted, row_shown, refusal_shown, pair_shown, table_shown, numbers_shown, form_shown, answer_shown, answer_line, showable};
 
 use crate::fault::Fault;
