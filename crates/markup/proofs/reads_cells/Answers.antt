@@ -1,0 +1,5 @@
+use Rattle.markup.proofs.Leads as leads
+use Rattle.markup.proofs.reads_cells.Goals as goal
+
+pub returns : goal.returns
+returns c = leads.reads_cells

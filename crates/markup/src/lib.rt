@@ -1,0 +1,236 @@
+// The cells of a paper as marked letters of a page: what is put in is underlined and what is struck out is struck through, each in the colour of its author.
+#![tactic(auto)]
+
+ghost use Rattle.std.specs.Prelude.{◌≡◌, ◌-◌, ◌<◌, ◌++◌, map, length, OnOk};
+ghost use Rattle.markup.specs.Laws.{ReadsCells, ReadsLetters};
+ghost use Rattle.markup.specs.Marked.{alike as look_alike, author_by, bare, between, closed, colour, following, hue as hue_of, mark_tag, marked, opened, said, span, title};
+ghost use Rattle.markup.specs.Plain.{escaped};
+ghost use Rattle.model.specs.Values.{change_of};
+ghost use Rattle.printing.specs.Values.{cell_of, cells_of};
+
+use model::Change;
+use printing::{Cell, push_number};
+use std::alloc::AllocError;
+
+// The letter that ends a paragraph.
+const END: u8 = 10;
+
+// A letter, by its name where it could be taken for markup.
+pub fn push_letter(out: &mut Vec<u8>, letter: u8) -> Result<(), AllocError>
+    ensures { OnOk result (out.new.items ≡ out.old.items ++ escaped letter) }
+{
+    if letter == b'<' {
+        out.extend_from_slice(b"&lt;")?;
+        return Ok(());
+    }
+    if letter == b'>' {
+        out.extend_from_slice(b"&gt;")?;
+        return Ok(());
+    }
+    if letter == b'&' {
+        out.extend_from_slice(b"&amp;")?;
+        return Ok(());
+    }
+    if letter == b'"' {
+        out.extend_from_slice(b"&quot;")?;
+        return Ok(());
+    }
+    out.push(letter)?;
+    Ok(())
+}
+
+// An author's colour: authors that follow one another are far apart.
+fn hue(author: u32) -> usize
+    ensures { result ≡ hue_of author }
+{
+    author as usize % 360 * 137 % 360
+}
+
+pub fn push_colour(out: &mut Vec<u8>, author: u32) -> Result<(), AllocError>
+    ensures { OnOk result (out.new.items ≡ out.old.items ++ colour author) }
+{
+    out.extend_from_slice(b" style='color:hsl(")?;
+    push_number(out, hue(author))?;
+    out.extend_from_slice(b",70%,30%)'")?;
+    Ok(())
+}
+
+// The author of the change whose mark a cell has.
+fn author_of(changes: &[Change], mark: u32) -> u32
+    requires { 0 < mark }
+    ensures { result ≡ author_by (map change_of changes.now) mark }
+{
+    let k = mark as usize - 1;
+    if k < changes.len() {
+        changes[k].author
+    } else {
+        0
+    }
+}
+
+// A sentence for a mark, and nothing where there is none.
+fn push_said(out: &mut Vec<u8>, words: &[u8], mark: u32) -> Result<(), AllocError>
+    ensures { OnOk result (out.new.items ≡ out.old.items ++ said words.now mark) }
+{
+    if mark == 0 {
+        return Ok(());
+    }
+    out.extend_from_slice(words)?;
+    push_number(out, mark as usize - 1)?;
+    out.extend_from_slice(b". ")?;
+    Ok(())
+}
+
+// Whether a cell has no marks.
+fn is_bare(x: Cell) -> bool
+    ensures { result ≡ bare x.put_in x.struck }
+{
+    (x.put_in == 0) & (x.struck == 0)
+}
+
+// What is shown of a letter's marks where one points at it.
+fn push_title(out: &mut Vec<u8>, x: Cell) -> Result<(), AllocError>
+    ensures { OnOk result (out.new.items ≡ out.old.items ++ title x.put_in x.struck) }
+{
+    if is_bare(x) {
+        return Ok(());
+    }
+    out.extend_from_slice(b" title='")?;
+    push_said(out, b"Put in by change ", x.put_in)?;
+    push_said(out, b"Struck out by change ", x.struck)?;
+    out.extend_from_slice(b"'")?;
+    Ok(())
+}
+
+fn push_span(out: &mut Vec<u8>, x: Cell) -> Result<(), AllocError>
+    ensures { OnOk result (out.new.items ≡ out.old.items ++ span (cell_of x)) }
+{
+    out.extend_from_slice(b"<span class='s")?;
+    push_number(out, x.style as usize)?;
+    out.extend_from_slice(b"'")?;
+    push_title(out, x)?;
+    out.extend_from_slice(b">")?;
+    Ok(())
+}
+
+// The tag for a mark, in the colour of its author, and nothing where there is none.
+fn push_mark(
+    out: &mut Vec<u8>,
+    start: &[u8],
+    changes: &[Change],
+    mark: u32,
+) -> Result<(), AllocError>
+    ensures { OnOk result (out.new.items ≡ out.old.items ++ mark_tag start.now (map change_of changes.now) mark) }
+{
+    if mark == 0 {
+        return Ok(());
+    }
+    out.extend_from_slice(start)?;
+    push_number(out, mark as usize - 1)?;
+    out.extend_from_slice(b"'")?;
+    push_colour(out, author_of(changes, mark))?;
+    out.extend_from_slice(b">")?;
+    Ok(())
+}
+
+// The tags before a letter.
+fn push_open(out: &mut Vec<u8>, changes: &[Change], x: Cell) -> Result<(), AllocError>
+    ensures { OnOk result (out.new.items ≡ out.old.items ++ opened (map change_of changes.now) (cell_of x)) }
+{
+    push_span(out, x)?;
+    push_mark(out, b"<ins data-change='", changes, x.put_in)?;
+    push_mark(out, b"<del data-change='", changes, x.struck)?;
+    Ok(())
+}
+
+// The tags after a letter.
+fn close_of(x: Cell) -> &'static [u8]
+    ensures { result.now ≡ closed x.put_in x.struck }
+{
+    if x.put_in == 0 {
+        if x.struck == 0 {
+            b"</span>"
+        } else {
+            b"</del></span>"
+        }
+    } else {
+        if x.struck == 0 {
+            b"</ins></span>"
+        } else {
+            b"</del></ins></span>"
+        }
+    }
+}
+
+// The same style and the same marks.
+fn alike(x: Cell, y: Cell) -> bool
+    ensures { result ≡ look_alike (cell_of x) (cell_of y) }
+{
+    (x.style == y.style) & ((x.put_in == y.put_in) & (x.struck == y.struck))
+}
+
+// What stands between two letters.
+fn push_between(out: &mut Vec<u8>, changes: &[Change], x: Cell, y: Cell) -> Result<(), AllocError>
+    ensures { OnOk result (out.new.items ≡ out.old.items ++ between (map change_of changes.now) (cell_of x) (cell_of y)) }
+{
+    if x.letter == END {
+        out.extend_from_slice(close_of(x))?;
+        out.extend_from_slice(b"</p><p>")?;
+        push_open(out, changes, y)?;
+        return Ok(());
+    }
+    if alike(x, y) {
+        return Ok(());
+    }
+    out.extend_from_slice(close_of(x))?;
+    push_open(out, changes, y)?;
+    Ok(())
+}
+
+// What follows on a cell.
+fn push_following(
+    out: &mut Vec<u8>,
+    changes: &[Change],
+    first: Cell,
+    more: &[Cell],
+) -> Result<(), AllocError>
+    ensures { OnOk result (out.new.items ≡ out.old.items ++ following (map change_of changes.now) (cell_of first) (cells_of more.now)) }
+{
+    let mut last = first;
+    for x in more {
+        push_between(out, changes, last, *x)?;
+        push_letter(out, x.letter)?;
+        last = *x;
+    }
+    out.extend_from_slice(close_of(last))?;
+    out.extend_from_slice(b"</p>")?;
+    Ok(())
+}
+
+// Cells as paragraphs.
+pub fn push_cells(out: &mut Vec<u8>, changes: &[Change], cells: &[Cell]) -> Result<(), AllocError>
+    ensures { OnOk result (out.new.items ≡ out.old.items ++ marked (map change_of changes.now) (cells_of cells.now)) }
+{
+    if cells.len() == 0 {
+        return Ok(());
+    }
+    out.extend_from_slice(b"<p>")?;
+    push_open(out, changes, cells[0])?;
+    push_letter(out, cells[0].letter)?;
+    push_following(out, changes, cells[0], &cells[1..])?;
+    Ok(())
+}
+
+// Whatever letters are written, a reader of the page sees just these.
+pub fn reads_letters() -> u8
+    ensures { ReadsLetters }
+{
+    0
+}
+
+// A reader of marked cells sees their letters, and no letter becomes markup.
+pub fn reads_cells() -> u8
+    ensures { ReadsCells }
+{
+    0
+}

@@ -1,0 +1,260 @@
+// The page of a paper: everything with its marks, the paper as if all open changes were accepted and as if all were rejected, and the changes.
+#![tactic(auto)]
+
+ghost use Rattle.model.specs.Values.{change_of};
+ghost use Rattle.page.specs.Page.{Paged, as_if, author_item, authors_from, bare as bare_cell, became as became_shown, change_row, change_rows, foot, has_author, head, key, legend, page_of, page_with, part, parts, table, table_head};
+ghost use Rattle.printing.specs.Values.{cells_of, number_of, paper_of};
+ghost use Rattle.std.specs.Prelude.{◌≡◌, ◌++◌, map, IfOk, OnOk};
+
+use markup::{push_cells, push_colour};
+use model::Change;
+use printing::{Cell, Paper, Reading, Way, push_number, read_paper, refuse, view};
+use std::alloc::{AllocError, Global};
+
+// What every page begins with.
+fn head_of() -> &'static [u8]
+    ensures { result.now ≡ head }
+{
+    b"<!DOCTYPE html>
+<html lang='en'>
+<head>
+<meta charset='utf-8'>
+<title>Paper</title>
+<style>
+body{max-width:44em;margin:2em auto;padding:0 1em;font:16px/1.6 Georgia,DejaVu Serif,serif;color:#111;background:#fff}
+h2,ul,th{font:bold 13px/1.6 Arial,DejaVu Sans,sans-serif;color:#555}
+h2{border-bottom:1px solid #bbb;margin:2em 0 .8em;break-after:avoid}
+p{margin:0;white-space:pre-wrap;overflow-wrap:anywhere}
+ins,u{text-decoration:underline;text-decoration-thickness:2px}
+del,s{text-decoration:line-through;text-decoration-thickness:2px}
+ins::before,del::before{content:attr(data-change);display:inline-block;font:bold 9px/1 Arial,DejaVu Sans,sans-serif;vertical-align:super}
+.s1,.s3{font-weight:bold}
+.s2,.s3{font-style:italic}
+ul{list-style:none;margin:0;padding:0}
+li{display:inline-block;margin-right:1.5em}
+table{border-collapse:collapse;font-size:14px}
+td,th{border:1px solid #bbb;padding:.1em .8em;text-align:left}
+tr{break-inside:avoid}
+@media print{body{margin:0;max-width:none;font-size:11pt}*{print-color-adjust:exact}}
+</style>
+</head>
+<body>
+"
+}
+
+fn key_of() -> &'static [u8]
+    ensures { result.now ≡ key }
+{
+    b"<ul><li><u>underlined</u>: put in</li><li><s>struck through</s>: struck out</li><li>small number: which change</li></ul>
+<ul>"
+}
+
+fn table_head() -> &'static [u8]
+    ensures { result.now ≡ table_head }
+{
+    b"<h2>Changes</h2>
+<table>
+<tr><th>Change</th><th>Author</th><th>Became</th></tr>
+"
+}
+
+fn foot_of() -> &'static [u8]
+    ensures { result.now ≡ foot }
+{
+    b"</table>
+</body>
+</html>
+"
+}
+
+// Whether an author made a change.
+fn has(changes: &[Change], author: u32) -> bool
+    ensures { result ≡ has_author (map change_of changes.now) author }
+{
+    for c in changes {
+        if c.author == author {
+            return true;
+        }
+    }
+    false
+}
+
+fn push_author(out: &mut Vec<u8>, author: u32) -> Result<(), AllocError>
+    ensures { OnOk result (out.new.items ≡ out.old.items ++ author_item author) }
+{
+    out.extend_from_slice(b"<li")?;
+    push_colour(out, author)?;
+    out.extend_from_slice(b">Author ")?;
+    push_number(out, author as usize)?;
+    out.extend_from_slice(b"</li>")?;
+    Ok(())
+}
+
+// The authors who made changes.
+fn push_authors(out: &mut Vec<u8>, changes: &[Change]) -> Result<(), AllocError>
+    ensures { OnOk result (out.new.items ≡ out.old.items ++ authors_from 256 0 (map change_of changes.now)) }
+{
+    for author in 0..256 {
+        if has(changes, author) {
+            push_author(out, author)?;
+        }
+    }
+    Ok(())
+}
+
+// What the marks mean, and the authors.
+fn push_legend(out: &mut Vec<u8>, changes: &[Change]) -> Result<(), AllocError>
+    ensures { OnOk result (out.new.items ≡ out.old.items ++ legend (map change_of changes.now)) }
+{
+    out.extend_from_slice(key_of())?;
+    push_authors(out, changes)?;
+    out.extend_from_slice(b"</ul>\n")?;
+    Ok(())
+}
+
+// Some cells under a title.
+fn push_part(
+    out: &mut Vec<u8>,
+    name: &[u8],
+    changes: &[Change],
+    cells: &[Cell],
+) -> Result<(), AllocError>
+    ensures { OnOk result (out.new.items ≡ out.old.items ++ part name.now (map change_of changes.now) (cells_of cells.now)) }
+{
+    out.extend_from_slice(b"<h2>")?;
+    out.extend_from_slice(name)?;
+    out.extend_from_slice(b"</h2>\n<div class='text'>")?;
+    push_cells(out, changes, cells)?;
+    out.extend_from_slice(b"</div>\n")?;
+    Ok(())
+}
+
+// Cells without their marks.
+fn bare(heap: Global, cells: &[Cell]) -> Result<Vec<Cell>, AllocError>
+    ensures { IfOk result (λ v. cells_of v.items ≡ map bare_cell (cells_of cells.now)) }
+{
+    let mut out = Vec::new(heap);
+    for x in cells {
+        out.push(Cell {
+            letter: x.letter,
+            style: x.style,
+            put_in: 0,
+            struck: 0,
+        })?;
+    }
+    Ok(out)
+}
+
+// The cells as if all open changes were accepted, or all rejected.
+fn settled(heap: Global, cells: &[Cell], way: Way) -> Result<Vec<Cell>, AllocError>
+    ensures { IfOk result (λ v. cells_of v.items ≡ as_if (number_of way) (cells_of cells.now)) }
+{
+    let seen = view(heap, cells, way)?;
+    Ok(bare(heap, seen.as_slice())?)
+}
+
+fn became_of(change: Change) -> &'static [u8]
+    ensures { result.now ≡ became_shown change.became }
+{
+    match change.became {
+        0 => b"open",
+        1 => b"accepted",
+        _ => b"rejected",
+    }
+}
+
+// A change's number, its author, and what became of it.
+fn push_change(out: &mut Vec<u8>, number: usize, change: Change) -> Result<(), AllocError>
+    ensures { OnOk result (out.new.items ≡ out.old.items ++ change_row number (change_of change)) }
+{
+    out.extend_from_slice(b"<tr><td>")?;
+    push_number(out, number)?;
+    out.extend_from_slice(b"</td><td")?;
+    push_colour(out, change.author)?;
+    out.extend_from_slice(b">")?;
+    push_number(out, change.author as usize)?;
+    out.extend_from_slice(b"</td><td>")?;
+    out.extend_from_slice(became_of(change))?;
+    out.extend_from_slice(b"</td></tr>\n")?;
+    Ok(())
+}
+
+fn push_changes(out: &mut Vec<u8>, changes: &[Change]) -> Result<(), AllocError>
+    ensures { OnOk result (out.new.items ≡ out.old.items ++ change_rows 0 (map change_of changes.now)) }
+{
+    for i in 0..changes.len() {
+        push_change(out, i, changes[i])?;
+    }
+    Ok(())
+}
+
+// The three ways to look at a paper.
+fn push_parts(
+    out: &mut Vec<u8>,
+    heap: Global,
+    changes: &[Change],
+    cells: &[Cell],
+) -> Result<(), AllocError>
+    ensures { OnOk result (out.new.items ≡ out.old.items ++ parts (map change_of changes.now) (cells_of cells.now)) }
+{
+    let accepted = settled(heap, cells, Way::Accepted)?;
+    let rejected = settled(heap, cells, Way::Rejected)?;
+    push_part(out, b"Everything", changes, cells)?;
+    push_part(
+        out,
+        b"As if all open changes were accepted",
+        changes,
+        accepted.as_slice(),
+    )?;
+    push_part(
+        out,
+        b"As if all open changes were rejected",
+        changes,
+        rejected.as_slice(),
+    )?;
+    Ok(())
+}
+
+// The list of changes, and the end of the page.
+fn push_table(out: &mut Vec<u8>, changes: &[Change]) -> Result<(), AllocError>
+    ensures { OnOk result (out.new.items ≡ out.old.items ++ table (map change_of changes.now)) }
+{
+    out.extend_from_slice(table_head())?;
+    push_changes(out, changes)?;
+    out.extend_from_slice(foot_of())?;
+    Ok(())
+}
+
+fn push_page(
+    out: &mut Vec<u8>,
+    heap: Global,
+    changes: &[Change],
+    cells: &[Cell],
+) -> Result<(), AllocError>
+    ensures { OnOk result (out.new.items ≡ out.old.items ++ page_with (map change_of changes.now) (cells_of cells.now)) }
+{
+    out.extend_from_slice(head_of())?;
+    push_legend(out, changes)?;
+    push_parts(out, heap, changes, cells)?;
+    push_table(out, changes)?;
+    Ok(())
+}
+
+fn push_paper(out: &mut Vec<u8>, heap: Global, paper: &Paper) -> Result<(), AllocError>
+    ensures { OnOk result (out.new.items ≡ out.old.items ++ page_of (paper_of paper.now)) }
+{
+    push_page(out, heap, paper.changes.as_slice(), paper.cells.as_slice())?;
+    Ok(())
+}
+
+// What the program writes of a text when it is asked for a page.
+pub fn write_page(heap: Global, text: &[u8]) -> Result<Vec<u8>, AllocError>
+    ensures { IfOk result (λ v. Paged text.now v.items) }
+{
+    let mut out = Vec::new(heap);
+    match read_paper(heap, text)? {
+        Reading::Whole(paper) => push_paper(&mut out, heap, &paper)?,
+        Reading::Ceases(place) => refuse(&mut out, place)?,
+    }
+    Ok(out)
+}

@@ -1,0 +1,5 @@
+pub mod Joins
+pub mod Mapped
+mod Once
+mod Shown
+mod Texts

@@ -1,0 +1,10 @@
+// A paper's file as a text, and what is printed of it.
+#![tactic(auto)]
+
+mod printer;
+mod reading;
+mod rows;
+
+pub use printer::{one_output, print, refuse};
+pub use reading::{Cell, Paper, Reading, read_paper};
+pub use rows::{Way, push_number, view};
