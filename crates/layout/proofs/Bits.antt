@@ -31,14 +31,24 @@ pub ways_bits : (x : Cell) (a b : ℕ) → a ≡ pick (eqb x.struck 0) 2 0 → b
     → (k : ℕ) → k < 3 → (1 + a + b) / 2 ^ k % 2 ≡ pick (seen k x) 1 0
 ways_bits x a b e f k h = rw (e, f) (bits x k h)
 
--- a test of a bit
-pub bit_test : (b : Bool) (n : ℕ) → n ≡ pick b 1 0 → eqb n 1 ≡ b
-bit_test true n e = rw e refl
-bit_test false n e = rw e refl
-
-up_to : (b : Bool) (n : ℕ) → pick b n 0 ≤ n
+pub up_to : (b : Bool) (n : ℕ) → pick b n 0 ≤ n
 up_to true n = omega arith
 up_to false n = omega arith
 
 pub ways_small : (x : Cell) (a b : ℕ) → a ≡ pick (eqb x.struck 0) 2 0 → b ≡ pick (eqb x.put_in 0) 4 0 → 1 + a + b < 8
 ways_small x a b e f = omega (arith, up_to (eqb x.struck 0) 2, up_to (eqb x.put_in 0) 4)
+
+-- each way by itself
+pub seen_all : (way : ℕ) (x : Cell) → way ≡ 0 → true ≡ seen way x
+unfolding seen
+seen_all way x e = rw e refl
+
+pub seen_unstruck : (way : ℕ) (x : Cell) → way ≡ 1 → eqb x.struck 0 ≡ seen way x
+unfolding seen
+seen_unstruck way x e = rw e refl
+
+pub seen_not_put : (way : ℕ) (x : Cell) → way < 3 → (way ≡ 0 → ⊥) → (way ≡ 1 → ⊥) → eqb x.put_in 0 ≡ seen way x
+unfolding seen
+seen_not_put zero x h a b = absurd (a refl)
+seen_not_put (suc zero) x h a b = absurd (b refl)
+seen_not_put (suc (suc way)) x h a b = refl

@@ -1,4 +1,5 @@
 mod Bits
+mod Spans
 pub mod Spots
 mod Scan
 mod Found

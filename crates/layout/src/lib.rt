@@ -1,12 +1,12 @@
 // Ways to look at a text that is kept in pieces: which cells are seen, how many, and how they stand in rows of a width.
 #![tactic(auto)]
 
-ghost use Rattle.std.specs.Prelude.{◌≡◌, ℕ, ◌+◌, ◌*◌, ◌/◌, ◌%◌, ◌^◌, ◌<◌, ◌≤◌, ◌++◌, length, take, drop};
+ghost use Rattle.std.specs.Prelude.{◌≡◌, ℕ, ◌+◌, ◌*◌, ◌/◌, ◌%◌, ◌^◌, ◌<◌, ◌≤◌, ◌&&◌, ◌++◌, length, take, drop, nat_lt, slice_index_or};
 ghost use Rattle.model.specs.Paper.{pick, seen, view};
 ghost use Rattle.model.specs.Rows.{rows};
 ghost use Rattle.model.specs.Calls.{lines};
 ghost use Rattle.model.specs.Values.{cell_of};
-ghost use Rattle.pieces.specs.Store.{cells_of, Store};
+ghost use Rattle.pieces.specs.Store.{used, cells_of, before, no_cell, Store};
 ghost use Rattle.codec.specs.Bytes.{cells_bytes, answer_bytes};
 ghost use Rattle.codec.specs.Over.{over};
 ghost use Rattle.layout.specs.Spots.{Inside};
@@ -40,11 +40,32 @@ pub fn ways(x: Cell) -> u32
 }
 
 // Whether a cell is seen.
-fn sees(way: u32, x: Cell) -> bool
+pub fn sees(way: u32, x: Cell) -> bool
     requires { way < 3 }
     ensures { result ≡ seen way (cell_of x) }
 {
-    (ways(x) >> way) % 2 == 1
+    match way {
+        0 => true,
+        1 => x.struck == 0,
+        _ => x.put_in == 0,
+    }
+}
+
+// Which of the up to 32 cells of piece `k` from its cell `from` on are seen, as bits: bit i is that of cell from + i, and 0 past the end of the piece.
+pub fn seen_bits(c: &[u32], p: &[u32], s: usize, k: usize, from: usize, way: u32) -> u32
+    requires store { Store c.now p.now s }
+    requires here { k < s }
+    requires way { way < 3 }
+    ensures { (i : ℕ) → i < 32 → result / 2 ^ i % 2 ≡ pick (nat_lt (from + i) (used p.now k) && seen way (slice_index_or (cells_of c.now p.now s) (before p.now k + (from + i)) no_cell)) 1 0 }
+{
+    let mut j = pieces::used(p, k).saturating_sub(from).min(32);
+    let mut bits = 0;
+    while j > 0 {
+        j -= 1;
+        let x = pieces::cell(c, p, s, k, from + j);
+        bits = 2 * bits + (ways(x) >> way) % 2;
+    }
+    bits
 }
 
 // How many cells are seen.

@@ -41,7 +41,7 @@ fn is_mark(mark: u32, change: u32) -> bool
 }
 
 // Whether the mark is that of a change of the author.
-fn is_of(mark: u32, author: u32, changes: &[u32], row: usize) -> bool
+pub fn is_of(mark: u32, author: u32, changes: &[u32], row: usize) -> bool
     requires { 2 * row ≤ length changes.now }
     ensures { result ≡ (author_of (changes_of changes.now row) mark == suc author) }
 {

@@ -1,0 +1,5 @@
+mod Splices
+mod Sealing
+mod Entries
+mod Runs
+mod Marking

@@ -1,0 +1,157 @@
+-- Marked cells written: one after the other, and piece by piece.
+use Rattle.std.proofs.Common.{◌≡◌, ℕ, suc, ◌+◌, ◌-◌, ◌*◌, ◌<◌, ◌≤◌, Bool, true, false, ◌||◌, eqb, List, [], ◌∷◌, ◌++◌, length, set, sym, refl, ap, ◌∙◌, subst, add-zero, add_assoc, zero-add, add-one, arith}
+use Rattle.std.specs.List.{AllByRecursion}
+use Rattle.std.proofs.lemmas.Bool.{ne_eqb}
+use Rattle.model.specs.Paper.{pick, Cell, cells_written, touched}
+use Rattle.slots.specs.Cells.{cell_at, cells_at}
+use Rattle.slots.proofs.Words.{length_cells, cells_split, cells_more}
+use Rattle.pieces.specs.Marks.{Lacks}
+use Rattle.pieces.specs.Store.{slot, used, number, piece, strung, cells_of, pieces_from, before}
+use Rattle.pieces.proofs.Strung.{strung_more, strung_at}
+use Rattle.pieces.proofs.Texts.{length_before}
+use Rattle.history.specs.Entry.{Mark, marks_of}
+use Rattle.history.specs.Words.{marks_written}
+use Rattle.history.proofs.Logging.{length_marks_written}
+use Rattle.history.proofs.Undoing.{length_marks}
+use Rattle.recorder.specs.Records.{MarkedAt, written_at}
+use Rattle.recorder.proofs.Splices.{written_none, written_one, written_more}
+
+-- a cell has the mark
+abbrev pub mark_in : Cell → ℕ → Bool
+mark_in x c = eqb x.put_in (suc c) || eqb x.struck (suc c)
+
+touched_append : (xs ys : List Cell) (c : ℕ) → touched (xs ++ ys) c ≡ touched xs c + touched ys c
+unfolding touched
+touched_append [] ys c = sym (zero-add (touched ys c))
+touched_append (x ∷ xs) ys c = ap (λ n. pick (mark_in x c) 1 0 + n) (touched_append xs ys c) ∙ sym (add_assoc (pick (mark_in x c) 1 0) (touched xs c) (touched ys c))
+
+pub touched_few : (xs : List Cell) (c : ℕ) → touched xs c ≤ length xs
+unfolding touched
+touched_few [] c = omega arith
+touched_few (x ∷ xs) c =
+    let ih = touched_few xs c in
+    elim (mark_in x c) as (λ b. pick {A = ℕ} b 1 0 + touched xs c ≤ suc (length xs)) [ true ↦ omega arith | false ↦ omega arith ]
+
+marks_append : (xs ys : List Cell) (c i : ℕ) → marks_of (xs ++ ys) c i ≡ marks_of xs c i ++ marks_of ys c (i + length xs)
+unfolding marks_of
+marks_append [] ys c i = ap (marks_of ys c) (sym (add-zero i))
+marks_append (x ∷ xs) ys c i =
+    let m : Mark = record { place = i; cell = x } in
+    let e : suc i + length xs ≡ i + suc (length xs) = omega arith in
+    let ih : marks_of (xs ++ ys) c (suc i) ≡ marks_of xs c (suc i) ++ marks_of ys c (i + suc (length xs)) =
+    marks_append xs ys c (suc i) ∙ ap (λ n. marks_of xs c (suc i) ++ marks_of ys c n) e in
+    elim (mark_in x c) as (λ b. pick b (m ∷ marks_of (xs ++ ys) c (suc i)) (marks_of (xs ++ ys) c (suc i)) ≡ pick b (m ∷ marks_of xs c (suc i)) (marks_of xs c (suc i)) ++ marks_of ys c (i + suc (length xs)))
+    [ true ↦ ap (λ ms. m ∷ ms) ih | false ↦ ih ]
+
+marks_written_append : (ms ns : List Mark) → marks_written (ms ++ ns) ≡ marks_written ms ++ marks_written ns
+unfolding marks_written
+marks_written_append [] ns = refl
+marks_written_append (m ∷ ms) ns =
+    ap (λ ws. m.place ∷ (m.cell.letter ∷ (m.cell.style ∷ (m.cell.put_in ∷ (m.cell.struck ∷ ws))))) (marks_written_append ms ns)
+
+marks_long : (xs : List Cell) (c i : ℕ) → length (marks_written (marks_of xs c i)) ≡ 5 * touched xs c
+marks_long xs c i = omega (arith, length_marks_written (marks_of xs c i), length_marks xs c i)
+
+-- no cells, and cells behind others
+pub marked_none : (u : List ℕ) (to c i : ℕ) → MarkedAt u u to [] c i 0
+unfolding marks_of marks_written touched
+marked_none u to c i = record { words = sym (written_none u to); count = refl }
+
+pub marked_join :
+    (u v w : List ℕ) (to k : ℕ) (xs ys : List Cell) (c i j a b : ℕ) → MarkedAt u v to xs c i a → MarkedAt v w k ys c j b → k ≡ to + 5 * a → j ≡ i + length xs →
+    to + 5 * touched xs c ≤ length u → MarkedAt u w to (xs ++ ys) c i (a + b)
+marked_join u v w to k xs ys c i j a b f g is-k is-j h =
+    let l = marks_long xs c i in
+    let t = touched_append xs ys c in
+    let first : List ℕ = marks_written (marks_of xs c i) in
+    let second : List ℕ = marks_written (marks_of ys c j) in
+    let both : first ++ second ≡ marks_written (marks_of (xs ++ ys) c i) =
+    ap (λ n. first ++ marks_written (marks_of ys c n)) is-j ∙ sym (marks_written_append (marks_of xs c i) (marks_of ys c (i + length xs))) ∙ ap marks_written (sym (marks_append xs ys c i)) in
+    record {
+      words = g.words ∙ ap (λ x. written_at x k second) f.words ∙ written_more u to first (omega arith) second k (omega (arith, f.count)) ∙ ap (written_at u to) both;
+      count = omega (arith, f.count, g.count);
+    }
+
+pub marked_as : (u new : List ℕ) (to c i n : ℕ) (xs ys : List Cell) → xs ≡ ys → MarkedAt u new to xs c i n → MarkedAt u new to ys c i n
+marked_as u new to c i n xs ys e h = subst (λ zs. MarkedAt u new to zs c i n) e h
+
+-- one cell
+pub touched_one : (x : Cell) (c : ℕ) → mark_in x c ≡ true → touched (x ∷ []) c ≡ 1
+unfolding touched
+touched_one x c e = ap (λ b. pick {A = ℕ} b 1 0 + 0) e
+
+pub marked_not : (u : List ℕ) (to : ℕ) (x : Cell) (c i : ℕ) → mark_in x c ≡ false → MarkedAt u u to (x ∷ []) c i 0
+unfolding marks_of marks_written touched
+marked_not u to x c i e =
+    let ms : marks_of (x ∷ []) c i ≡ [] = ap (λ b. pick b (record { place = i; cell = x } ∷ []) []) e in
+    record { words = sym (ap (λ m. written_at u to (marks_written m)) ms ∙ written_none u to); count = sym (ap (λ b. pick {A = ℕ} b 1 0 + 0) e) }
+
+pub marked_one :
+    (u new : List ℕ) (to : ℕ) (x : Cell) (c i : ℕ) → mark_in x c ≡ true → to + 5 ≤ length u → new ≡ written_at (set u to i) (to + 1) (cells_written (x ∷ [])) →
+    MarkedAt u new to (x ∷ []) c i 1
+unfolding marks_of marks_written touched cells_written
+marked_one u new to x c i e h is =
+    let one : set u to i ≡ written_at u to (i ∷ []) = written_one u to i (omega arith) in
+    let ms : marks_of (x ∷ []) c i ≡ record { place = i; cell = x } ∷ [] = ap (λ b. pick b (record { place = i; cell = x } ∷ []) []) e in
+    record {
+      words =
+          is ∙ ap (λ v. written_at v (to + 1) (cells_written (x ∷ []))) one ∙ written_more u to (i ∷ []) (omega arith) (cells_written (x ∷ [])) (to + 1) refl
+          ∙ sym (ap (λ m. written_at u to (marks_written m)) ms);
+      count = sym (touched_one x c e);
+    }
+
+-- one more cell of a row
+pub cells_room : (w : List ℕ) (at n i c : ℕ) → i < n → touched (cells_at w at i) c + touched (cell_at w (at + i) ∷ []) c ≤ touched (cells_at w at n) c
+cells_room w at n i c l =
+    let e : i + 1 + (n - (i + 1)) ≡ n = omega arith in
+    let all : touched (cells_at w at n) c ≡ touched (cells_at w at (i + 1) ++ cells_at w (at + (i + 1)) (n - (i + 1))) c =
+    ap (λ m. touched (cells_at w at m) c) (sym e) ∙ ap (λ xs. touched xs c) (cells_split w at (i + 1) (n - (i + 1))) in
+    let t = touched_append (cells_at w at (i + 1)) (cells_at w (at + (i + 1)) (n - (i + 1))) c in
+    let more = ap (λ xs. touched xs c) (cells_more w at i) ∙ touched_append (cells_at w at i) (cell_at w (at + i) ∷ []) c in
+    omega arith
+
+pub marked_more :
+    (u v w cells : List ℕ) (to from i c first a b : ℕ) (x : Cell) → x ≡ cell_at cells (from + i) → MarkedAt u v to (cells_at cells from i) c first a →
+    MarkedAt v w (to + 5 * a) (x ∷ []) c (first + i) b → to + 5 * touched (cells_at cells from i) c ≤ length u → MarkedAt u w to (cells_at cells from (i + 1)) c first (a + b)
+marked_more u v w cells to from i c first a b x is f g h =
+    let l = length_cells cells from i in
+    let both : cells_at cells from i ++ (x ∷ []) ≡ cells_at cells from (i + 1) = ap (λ y. cells_at cells from i ++ (y ∷ [])) is ∙ sym (cells_more cells from i) in
+    marked_as u w to c first (a + b) (cells_at cells from i ++ (x ∷ [])) (cells_at cells from (i + 1)) both
+    (marked_join u v w to (to + 5 * a) (cells_at cells from i) (x ∷ []) c first (first + i) a b f g refl (omega arith) h)
+
+-- a piece: all its cells, or none if it lacks the mark
+pub piece_is : (cells p : List ℕ) (k from n : ℕ) → from ≡ number p k 0 → n ≡ used p k → cells_at cells from n ≡ piece cells p k
+unfolding piece
+piece_is cells p k from n e f =
+    let z : from ≡ 1024 * slot p k = omega arith in
+    ap (λ i. cells_at cells i n) z ∙ ap (cells_at cells (1024 * slot p k)) f
+
+lacks_not : (xs : List Cell) (c i : ℕ) → AllByRecursion (Lacks (suc c)) xs → marks_of xs c i ≡ []
+unfolding marks_of
+lacks_not [] c i all = refl
+lacks_not (x ∷ xs) c i all = rw (ne_eqb x.put_in (suc c) all.0.put_in, ne_eqb x.struck (suc c) all.0.struck) (lacks_not xs c (suc i) all.1)
+
+pub marked_lacks : (u : List ℕ) (to c i : ℕ) (xs : List Cell) → AllByRecursion (Lacks (c + 1)) xs → MarkedAt u u to xs c i 0
+unfolding marks_written
+marked_lacks u to c i xs all =
+    let none : marks_of xs c i ≡ [] = lacks_not xs c i (rw add-one at all) in
+    record { words = sym (ap (λ m. written_at u to (marks_written m)) none ∙ written_none u to); count = ap length (sym none) ∙ length_marks xs c i }
+
+-- one more piece of the text
+pub text_room : (cells p : List ℕ) (s k c : ℕ) → k < s → touched (pieces_from cells p 0 k) c + touched (piece cells p k) c ≤ touched (cells_of cells p s) c
+text_room cells p s k c l =
+    let all = ap (λ xs. touched xs c) (strung_at (piece cells p) k s l) in
+    let rest : List Cell = strung (piece cells p) (suc k) (s - suc k) in
+    let t = touched_append (strung (piece cells p) 0 k) (piece cells p k ++ rest) c in
+    let t2 = touched_append (piece cells p k) rest c in
+    omega arith
+
+pub marked_next :
+    (u v w cells p : List ℕ) (to k c first a b : ℕ) → first ≡ before p k → MarkedAt u v to (pieces_from cells p 0 k) c 0 a →
+    MarkedAt v w (to + 5 * a) (piece cells p k) c first b → to + 5 * touched (pieces_from cells p 0 k) c ≤ length u → MarkedAt u w to (pieces_from cells p 0 (k + 1)) c 0 (a + b)
+marked_next u v w cells p to k c first a b is f g h =
+    let l = length_before cells p k in
+    let e : suc k ≡ k + 1 = omega arith in
+    let both : strung (piece cells p) 0 k ++ piece cells p k ≡ strung (piece cells p) 0 (k + 1) = sym (strung_more (piece cells p) k) ∙ ap (strung (piece cells p) 0) e in
+    marked_as u w to c 0 (a + b) (strung (piece cells p) 0 k ++ piece cells p k) (pieces_from cells p 0 (k + 1)) both
+    (marked_join u v w to (to + 5 * a) (strung (piece cells p) 0 k) (piece cells p k) c 0 first a b f g refl (omega arith) h)

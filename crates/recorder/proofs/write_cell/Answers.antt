@@ -1,0 +1,6 @@
+-- Four words in a row.
+use Rattle.recorder.proofs.Runs.{cell_set}
+use Rattle.recorder.proofs.write_cell.Goals as goal
+
+pub returns : goal.returns
+returns c = cell_set c.args.u.now c.args.to c.args.cell c.requires

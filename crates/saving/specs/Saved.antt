@@ -1,0 +1,30 @@
+-- What is saved: the numbers of a paper's file from number `from` on, n of them, as an answer in lent bytes.
+use Rattle.std.specs.Prelude.{◌≡◌, ℕ, ◌+◌, ◌<◌, ◌≤◌, List, ◌∷◌, ◌++◌, length, take, drop, Some, None, Option}
+use Rattle.model.specs.Paper.{Change, changes_written, written}
+use Rattle.model.specs.Calls.{numbers}
+use Rattle.changes.specs.Row.{changes_of}
+use Rattle.pieces.specs.Store.{cells_of}
+use Rattle.codec.specs.Bytes.{answer_bytes}
+
+-- the numbers of a file before those of the cells
+abbrev pub head : List Change → List ℕ
+head cs = length cs ∷ changes_written cs
+
+-- the file of the paper whose cells stand in c and p, and whose changes stand in the words w
+abbrev pub file : List ℕ → List ℕ → ℕ → List ℕ → ℕ → List ℕ
+file c p s w row = written (record { cells = cells_of c p s; changes = changes_of w row })
+
+-- the numbers are there, and stand in the first r bytes; the bytes after them are as they were
+pub record Saves (ns : List ℕ) (from n : ℕ) (out out' : List ℕ) (r : ℕ) : Type 0 where
+  pub there : from + n ≤ length ns
+  pub bytes : out' ≡ answer_bytes (numbers (take n (drop from ns))) ++ drop r out
+  pub long : r ≡ length (answer_bytes (numbers (take n (drop from ns))))
+
+-- the numbers are not all there, and nothing is written
+pub record SavesNone (ns : List ℕ) (from n : ℕ) (out out' : List ℕ) : Type 0 where
+  pub short : length ns < from + n
+  pub same : out' ≡ out
+
+abbrev pub Saved : List ℕ → ℕ → ℕ → List ℕ → List ℕ → Option ℕ → Type 0
+Saved ns from n out out' None = SavesNone ns from n out out'
+Saved ns from n out out' (Some r) = Saves ns from n out out' r
