@@ -5,7 +5,7 @@ use Rattle.model.proofs.Picks.{pick_true, pick_false}
 use Rattle.std.proofs.lemmas.List.{append_assoc, append-nil, drop_more, drop_all, get_or-map, get_or_past, length-map, nil_from_length}
 use Rattle.model.specs.Paper.{pick, Cell, Change}
 use Rattle.model.specs.Values.{change_of}
-use Rattle.model.specs.declared.Change as code-change
+use Rattle.model.specs.declared.Change as code_change
 use Rattle.printing.specs.declared.reading.Cell as code
 use Rattle.printing.specs.Values.{cell_of, cells_of}
 use Rattle.markup.specs.Plain.{escaped}
@@ -77,7 +77,7 @@ module _ (cs : List Change) (x y : Cell) where
     between-new e = sym (between-same ∙ pick_false (alike x y) _ _ e)
 
 -- the author of the change that a mark names
-module _ (cs : List code-change.Change) (m : ℕ) (d : code-change.Change) where
+module _ (cs : List code_change.Change) (m : ℕ) (d : code_change.Change) where
   pub author-there : m - 1 < length cs → (get_or cs (m - 1) d).author ≡ author_by (map change_of cs) m
   author-there h = sym (ap (λ (c : Change). c.author) (get_or-map change_of cs (m - 1) d (record { author = 0; became = 0 }) h))
 

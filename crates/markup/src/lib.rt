@@ -1,7 +1,7 @@
 // The cells of a paper as marked letters of a page: what is put in is underlined and what is struck out is struck through, each in the colour of its author.
 #![tactic(auto)]
 
-ghost use Rattle.std.specs.Prelude.{◌≡◌, ◌-◌, ◌<◌, ◌++◌, map, length, OnOk};
+ghost use Rattle.std.specs.Prelude.{◌≡◌, ◌-◌, ◌<◌, ◌++◌, map, OnOk};
 ghost use Rattle.markup.specs.Laws.{ReadsCells, ReadsLetters};
 ghost use Rattle.markup.specs.Marked.{alike as look_alike, author_by, bare, between, closed, colour, following, hue as hue_of, mark_tag, marked, opened, said, span, title};
 ghost use Rattle.markup.specs.Plain.{escaped};

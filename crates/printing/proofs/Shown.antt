@@ -10,7 +10,7 @@ use Rattle.model.specs.Walk.{step}
 use Rattle.model.proofs.Rows.{rows_step, rows_none, step_inside, step_moves}
 use Rattle.text.specs.Shown.{cell_line, row_line}
 use Rattle.printing.specs.declared.reading.Cell as code
-use Rattle.printing.specs.declared.rows.Cut as code-cut
+use Rattle.printing.specs.declared.rows.Cut as code_cut
 use Rattle.printing.specs.Printed.{rows_printed}
 use Rattle.printing.specs.Values.{cell_of, cells_of, cut_of, FirstRow}
 
@@ -161,7 +161,7 @@ pub row_end : (out whole : List ℕ) (row : List code.Cell) (i : ℕ) → length
 row_end out whole row i h q = sym (row_none out) ∙ (ap (λ ys. out ++ row_line (cells_of ys)) (sym (drop_all i row h)) ∙ q)
 
 -- a row that is cut so ends where there are cells, and takes at least one
-pub first_row : (xs : List code.Cell) (r : code-cut.Cut) → cut_of r ≡ cut 64 (cells_of xs) → FirstRow xs r
+pub first_row : (xs : List code.Cell) (r : code_cut.Cut) → cut_of r ≡ cut 64 (cells_of xs) → FirstRow xs r
 first_row xs r e =
     let a : r.long ≡ (cut 64 (cells_of xs)).long = ap (λ (c : Cut). c.long) e in
     let b : r.skips ≡ (cut 64 (cells_of xs)).skips = ap (λ (c : Cut). c.skips) e in
@@ -182,7 +182,7 @@ rows_more line w xs h k =
     let b = append_assoc line (row_line (take (cut w xs).long xs)) (10 ∷ rows_printed (rows w (drop (step w xs) xs))) in
     a ∙ (b ∙ ap (λ rs. line ++ rows_printed rs) (sym r))
 
-pub rows_go : (out after whole : List ℕ) (rest : List code.Cell) (r : code-cut.Cut) (k : ℕ) → FirstRow rest r → 0 < length rest → k ≡ r.long →
+pub rows_go : (out after whole : List ℕ) (rest : List code.Cell) (r : code_cut.Cut) (k : ℕ) → FirstRow rest r → 0 < length rest → k ≡ r.long →
     after ≡ (out ++ row_line (cells_of (take k rest))) ++ (10 ∷ []) → out ++ rows_printed (rows 64 (cells_of rest)) ≡ whole →
     after ++ rows_printed (rows 64 (cells_of (drop (r.long + r.skips) rest))) ≡ whole
 rows_go out after whole rest r k f h same e q =

@@ -3,7 +3,7 @@
 
 ghost use Rattle.std.specs.Prelude.{◌≡◌, ℕ, suc, ◌+◌, ◌*◌, ◌<◌, ◌≤◌, ◌||◌, List, [], ◌∷◌, length, take, drop, ◌==◌, nat_eq};
 ghost use Rattle.changes.specs.Row.{changes_of};
-ghost use Rattle.history.specs.Entry.{entry_of, marks_of, staying as staying-of, was_put};
+ghost use Rattle.history.specs.Entry.{entry_of, marks_of, staying as staying_of, was_put};
 ghost use Rattle.history.specs.Log.{Keeps};
 ghost use Rattle.history.specs.Words.{marks_written};
 ghost use Rattle.model.specs.Calls.{strikes, styles};
@@ -137,7 +137,7 @@ fn staying(u: &[u32], to: usize, n: usize, author: u32, changes: &[u32], row: us
     requires inside { to + 4 * n ≤ length u.now }
     requires few { n < 4294967296 }
     requires row { 2 * row ≤ length changes.now }
-    ensures { (xs : List PaperCell) → length xs ≡ n → between to (to + length (cells_written xs)) u.now ≡ cells_written xs → result ≡ staying-of xs (changes_of changes.now row) author }
+    ensures { (xs : List PaperCell) → length xs ≡ n → between to (to + length (cells_written xs)) u.now ≡ cells_written xs → result ≡ staying_of xs (changes_of changes.now row) author }
 {
     let mut stay = 0;
     for i in 0..n {

@@ -2,7 +2,7 @@
 // there are, the row of changes, and for each piece the words of its cells.
 #![tactic(auto)]
 
-ghost use Rattle.std.specs.Prelude.{◌≡◌, ℕ, ◌+◌, ◌-◌, ◌*◌, ◌≤◌, length, take, drop};
+ghost use Rattle.std.specs.Prelude.{◌≡◌, ◌+◌, ◌-◌, ◌*◌, ◌≤◌, length, take, drop};
 ghost use Rattle.model.specs.Paper.{cells_written};
 ghost use Rattle.changes.specs.Row.{changes_of};
 ghost use Rattle.pieces.specs.Store.{cells_of, before, Store};
