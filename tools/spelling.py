@@ -3,7 +3,7 @@
 
 usage: python3 tools/spelling.py [FOLDER] [--dry]     in the repository, or for the one in FOLDER: once, after the kit's port.py
 
-It goes by the declarations: every name that a file of crates/*/specs or crates/*/proofs declares at its left edge, as a field, as a constructor or by `as`.
+It goes by the declarations: every name that a file of crates/*/specs or crates/*/proofs declares, at its left edge, in a module, as a field, as a constructor or by `as`.
 Where its type ends in `Type 0` and it has a capital it is a type or a fact, and its parts are joined in camel case (`Enough-memory` becomes
 `EnoughMemory`); else dashes and humps become underscores (`cells-of` becomes `cells_of`, `cellsAt` becomes `cells_at`), and `getD`, which the library
 calls `get_or` now, follows it. Names that Rattle generates (answers to goals, steps, places), names of the library, names of functions of src/,
@@ -14,9 +14,8 @@ import re
 import sys
 
 WORD = re.compile(r"[^\s(){}\[\];,.`\"@«»λ|↦]+")
-DECLARED = re.compile(r"^(?:abbrev |unfoldable )?(?:pub )?((?:[^\s(){}:.\"]+ )+): ?(.*)$")
-TYPE = re.compile(r"^(?:pub )?(?:abbrev )?(?:data|record) ([^\s:]+)")
-FIELD = re.compile(r"^  +(?:pub )?([^\s(){}:.\"]+) : ?(.*)$")
+DECLARED = re.compile(r"^ *(?:abbrev |unfoldable )?(?:pub )?((?:[^\s(){}:.=\"]+ )+): ?(.*)$")
+TYPE = re.compile(r"^ *(?:pub )?(?:abbrev )?(?:data|record) ([^\s:]+)")
 ALIAS = re.compile(r" as ([a-z][^\s(){}:.,;\"]*)[,}]")
 GOAL = re.compile(r"^goal\.|\.Goals\.|\.Given\.")
 
@@ -40,28 +39,28 @@ def code(line):
     return line if i < 0 else line[:i]
 
 
+def depth(line):
+    return len(line) - len(line.lstrip())
+
+
 def signatures(text):
-    """Each declared name with its whole type, which may go on over lines that are indented."""
+    """Each declared name, at the left edge, in a module or in a record, with its whole type, which may go on over lines that are indented further."""
     lines = text.split("\n")
-    inside = False  # of a record or of data
     for i, raw in enumerate(lines):
         line = code(raw)
         if TYPE.match(line):
-            inside = True
             yield TYPE.match(line).group(1), "Type 0"
             continue
-        if line and not line.startswith(" "):
-            inside = False
         if line.startswith("use "):
             for name in ALIAS.findall(line):
                 yield name, ""
             continue
-        m = FIELD.match(line) if inside else DECLARED.match(line)
-        if not m:
+        m = DECLARED.match(line)
+        if not m or m.group(1).split()[0] in ("let", "in", "module"):
             continue
         kind = m.group(2)
         for more in lines[i + 1:]:
-            if inside or not more.startswith("  "):
+            if depth(more) <= depth(line):
                 break
             kind += " " + code(more).strip()
         for name in m.group(1).split():
@@ -88,11 +87,13 @@ def declared(root):
     return found, generated
 
 
-def turned(line, table):
-    """The line with each word of the table respelled, but for strings."""
+def turned(line, table, generated):
+    """The line with each word of the table respelled, but for strings, and for `c.step` and `w.step` where these are records that Rattle generates."""
     parts = re.split(r'("(?:[^"\\]|\\.)*")', line)
     for i in range(0, len(parts), 2):
-        parts[i] = WORD.sub(lambda m: table.get(m.group(0), m.group(0)), parts[i])
+        part = parts[i]
+        steps = {m.start(1) for m in re.finditer(r"\b[cw]\.([^\s.]+)", part)} if generated else ()
+        parts[i] = WORD.sub(lambda m: m.group(0) if m.start() in steps else table.get(m.group(0), m.group(0)), part)
     return "".join(parts)
 
 
@@ -123,7 +124,8 @@ def main(argv):
         for old in words & table.keys():
             if table[old] in words:
                 print(f"both in {os.path.relpath(path, root)}: {old} and {table[old]}")
-        new = "\n".join(turned(line, table) for line in text.split("\n"))
+        answers = os.path.basename(path) in ("Answers.antt", "Invariants.antt")
+        new = "\n".join(turned(line, table, answers) for line in text.split("\n"))
         if new != text and not dry:
             with open(path, "w", encoding="utf-8") as f:
                 f.write(new)

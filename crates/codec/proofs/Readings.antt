@@ -15,17 +15,17 @@ module _ (bs : List ℕ) (some : length bs ≡ 0 → ⊥) (known : get_or bs 0 0
   begins : (eqb (length bs) 0 || leb 12 (get_or bs 0 0)) ≡ false
   begins = or_from _ _ (ne_eqb (length bs) 0 some) (lt-leb 12 (get_or bs 0 0) known)
 
-  pub few-fields : length bs < head_length (get_or bs 0 0) → reading bs ≡ ceases (length bs)
+  pub few_fields : length bs < head_length (get_or bs 0 0) → reading bs ≡ ceases (length bs)
   unfolding reading
-  few-fields h = rw (begins, lt-ltb (length bs) (head_length (get_or bs 0 0)) h)
+  few_fields h = rw (begins, lt-ltb (length bs) (head_length (get_or bs 0 0)) h)
 
   module _ (enough : head_length (get_or bs 0 0) ≤ length bs) where
     fields : ltb (length bs) (head_length (get_or bs 0 0)) ≡ false
     fields = le-ltb (length bs) (head_length (get_or bs 0 0)) enough
 
-    pub few-letters : length bs < whole_length bs → reading bs ≡ ceases (length bs)
+    pub few_letters : length bs < whole_length bs → reading bs ≡ ceases (length bs)
     unfolding reading
-    few-letters h = rw (begins, fields, lt-ltb (length bs) (whole_length bs) h)
+    few_letters h = rw (begins, fields, lt-ltb (length bs) (whole_length bs) h)
 
     pub too_many : whole_length bs < length bs → reading bs ≡ ceases (whole_length bs)
     unfolding reading

@@ -8,8 +8,8 @@ use Rattle.codec.specs.Bytes.{words_bytes, call_bytes}
 use Rattle.codec.specs.Reading.{Reading, reading, call_is, ceases, head_length, whole_length, call_of, field}
 use Rattle.codec.specs.Laws.{ReadsOnly}
 use Rattle.codec.proofs.ReadableIs.{readable_is}
-use Rattle.codec.proofs.Words.{words_at, words-split}
-use Rattle.codec.proofs.Readings.{no_byte, no_call, few-fields, few-letters, too_many, whole}
+use Rattle.codec.proofs.Words.{words_at, words_split}
+use Rattle.codec.proofs.Readings.{no_byte, no_call, few_fields, few_letters, too_many, whole}
 
 -- bytes that are read as a call passed every test
 record Passed (bs : List ℕ) (c : Call) : Type 0 where
@@ -30,10 +30,10 @@ passed bs c e =
             | inr high ↦ clash (reading bs) c 0 e (no_call bs high)
             | inl known ↦
                 elim (cases_lt (length bs) (head_length (get_or bs 0 0))) [
-                  | inl few ↦ clash (reading bs) c (length bs) e (few-fields bs some known few)
+                  | inl few ↦ clash (reading bs) c (length bs) e (few_fields bs some known few)
                   | inr enough ↦
                       elim (cases_lt (length bs) (whole_length bs)) [
-                        | inl few ↦ clash (reading bs) c (length bs) e (few-letters bs some known enough few)
+                        | inl few ↦ clash (reading bs) c (length bs) e (few_letters bs some known enough few)
                         | inr all ↦
                             elim (cases_lt (whole_length bs) (length bs)) [
                               | inl many ↦ clash (reading bs) c (whole_length bs) e (too_many bs some known enough many)
@@ -50,7 +50,7 @@ passed bs c e =
 -- a call without letters is its fields
 no_letters : (bs : List ℕ) → all_below 256 bs ≡ true → (k : ℕ) → length bs ≡ 1 + 4 * k → drop 1 bs ≡ words_bytes (words_at bs 1 k)
 no_letters bs b k long =
-    let s = words-split bs b 1 k (omega arith) in
+    let s = words_split bs b 1 k (omega arith) in
     let d = drop_all (1 + 4 * k) bs (omega arith) in
     let a = append-nil (words_bytes (words_at bs 1 k)) in
     cc
@@ -62,7 +62,7 @@ unfolding call_bytes words_bytes
 only zero rest h b enough long =
     let bs : List ℕ = 0 ∷ rest in
     let l : length (drop 17 bs) ≡ field bs 3 = simp length-drop (omega arith) in
-    rw l (ap (λ r. 0 ∷ r) (words-split bs b 1 4 enough))
+    rw l (ap (λ r. 0 ∷ r) (words_split bs b 1 4 enough))
 only (suc zero) rest h b enough long = ap (λ r. 1 ∷ r) (no_letters (1 ∷ rest) b 3 long)
 only (suc (suc zero)) rest h b enough long = ap (λ r. 2 ∷ r) (no_letters (2 ∷ rest) b 1 long)
 only (suc (suc (suc zero))) rest h b enough long = ap (λ r. 3 ∷ r) (no_letters (3 ∷ rest) b 1 long)
@@ -73,7 +73,7 @@ only (suc (suc (suc (suc (suc (suc (suc zero))))))) rest h b enough long = ap (�
 only (suc (suc (suc (suc (suc (suc (suc (suc zero)))))))) rest h b enough long =
     let bs : List ℕ = 8 ∷ rest in
     let l : length (drop 13 bs) ≡ field bs 2 = simp length-drop (omega arith) in
-    rw l (ap (λ r. 8 ∷ r) (words-split bs b 1 3 enough))
+    rw l (ap (λ r. 8 ∷ r) (words_split bs b 1 3 enough))
 only (suc (suc (suc (suc (suc (suc (suc (suc (suc zero))))))))) rest h b enough long = ap (λ r. 9 ∷ r) (no_letters (9 ∷ rest) b 1 long)
 only (suc (suc (suc (suc (suc (suc (suc (suc (suc (suc zero)))))))))) rest h b enough long = ap (λ r. 10 ∷ r) (no_letters (10 ∷ rest) b 1 long)
 only (suc (suc (suc (suc (suc (suc (suc (suc (suc (suc (suc zero))))))))))) rest h b enough long = ap (λ r. 11 ∷ r) (no_letters (11 ∷ rest) b 2 long)

@@ -58,12 +58,12 @@ module _ (bs : List ℕ) (below : all_below 256 bs ≡ true) where
       rw w (cc)
 
   -- what stands at a place is the bytes of the numbers there, and what comes after
-  pub words-split : (at k : ℕ) → at + 4 * k ≤ length bs → drop at bs ≡ words_bytes (words_at bs at k) ++ drop (at + 4 * k) bs
+  pub words_split : (at k : ℕ) → at + 4 * k ≤ length bs → drop at bs ≡ words_bytes (words_at bs at k) ++ drop (at + 4 * k) bs
   unfolding words_bytes
-  words-split at zero h = rw add-zero
-  words-split at (suc k) h =
+  words_split at zero h = rw add-zero
+  words_split at (suc k) h =
       let s = word_split at (omega arith) in
-      let t = words-split (at + 4) k (omega arith) in
+      let t = words_split (at + 4) k (omega arith) in
       let e : at + 4 + 4 * k ≡ at + 4 * suc k = omega arith in
       let a = append_assoc (word_bytes (word_at bs at)) (words_bytes (words_at bs (at + 4) k)) (drop (at + 4 * suc k) bs) in
       cc

@@ -8,18 +8,18 @@ use Rattle.codec.specs.Over.{over}
 
 -- n is the place after what was written
 module _ (out : List ℕ) (at : ℕ) (bs : List ℕ) (n : ℕ) (e : n ≡ at + length bs) (fits : n ≤ length out) where
-  pub take-over : take n (over out at bs) ≡ take at out ++ bs
+  pub take_over : take n (over out at bs) ≡ take at out ++ bs
   unfolding over
-  take-over =
+  take_over =
       let h : at ≤ length out = omega arith in
       let l : length (take at out ++ bs) ≡ n = simp (length-append, length-take-le) (omega arith) in
       let t = take_at (take at out ++ bs) (drop (at + length bs) out) n l in
       let a = append_assoc (take at out) bs (drop (at + length bs) out) in
       cc
 
-  pub drop-over : drop n (over out at bs) ≡ drop n out
+  pub drop_over : drop n (over out at bs) ≡ drop n out
   unfolding over
-  drop-over =
+  drop_over =
       let h : at ≤ length out = omega arith in
       let l : length (take at out ++ bs) ≡ n = simp (length-append, length-take-le) (omega arith) in
       let t = drop_at (take at out ++ bs) (drop (at + length bs) out) n l in
@@ -33,11 +33,11 @@ module _ (out : List ℕ) (at : ℕ) (bs : List ℕ) (n : ℕ) (e : n ≡ at + l
       simp (length-append, length-take-le, length-drop) (omega arith)
 
   -- what is written next continues it
-  pub over-more : (cs : List ℕ) → over (over out at bs) n cs ≡ over out at (bs ++ cs)
+  pub over_more : (cs : List ℕ) → over (over out at bs) n cs ≡ over out at (bs ++ cs)
   unfolding over
-  over-more cs =
-      let t = take-over in
-      let d = drop-over in
+  over_more cs =
+      let t = take_over in
+      let d = drop_over in
       let d1 = drop-drop (length cs) n (over out at bs) in
       let d2 = drop-drop (length cs) n out in
       let a1 = append_assoc (take at out) bs (cs ++ drop (n + length cs) out) in
@@ -48,7 +48,7 @@ module _ (out : List ℕ) (at : ℕ) (bs : List ℕ) (n : ℕ) (e : n ≡ at + l
 -- the step of a caller that writes piece after piece
 pub over_step : (out : List ℕ) (at : ℕ) (bs cs : List ℕ) {n : ℕ} {first second : List ℕ} → first ≡ over out at bs → n ≡ at + length bs → n ≤ length out
     → second ≡ over first n cs → second ≡ over out at (bs ++ cs)
-over_step out at bs cs {n} f e fits g = let m = over-more out at bs n e fits cs in cc
+over_step out at bs cs {n} f e fits g = let m = over_more out at bs n e fits cs in cc
 
 pub over_nothing : (out : List ℕ) (at : ℕ) → over out at [] ≡ out
 unfolding over
@@ -106,10 +106,10 @@ module _ (out : List ℕ) (at : ℕ) (before : List ℕ) where
       let p = words_bytes_push ns n in
       cc
 
-  pub cells-step : (xs : List Cell) (x : Cell) {place : ℕ} {first second : List ℕ} → first ≡ over out at (before ++ cells_bytes xs)
+  pub cells_step : (xs : List Cell) (x : Cell) {place : ℕ} {first second : List ℕ} → first ≡ over out at (before ++ cells_bytes xs)
       → place ≡ at + (length before + 16 * length xs) → place ≤ length out → second ≡ over first place (cells_bytes (x ∷ []))
       → second ≡ over out at (before ++ cells_bytes (xs ++ (x ∷ [])))
-  cells-step xs x {place} f e fits g =
+  cells_step xs x {place} f e fits g =
       let l : place ≡ at + length (before ++ cells_bytes xs) = simp (length-append, length_cells_bytes) e in
       let s = over_step out at (before ++ cells_bytes xs) (cells_bytes (x ∷ [])) f l fits g in
       let a = append_assoc before (cells_bytes xs) (cells_bytes (x ∷ [])) in

@@ -9,20 +9,20 @@ use Rattle.file.specs.Places.{last, MarkFits, NumberFits}
 use Rattle.file.proofs.Rows.{length_changes, length_cells, change_in, cell_in}
 
 module _ (ns : List ℕ) (n m : ℕ) (long : length ns ≡ 1 + 2 * n + 4 * m) (first : get_or ns 0 0 ≡ n) where
-  mark-open : (k : ℕ) → MarkFits ns k → open_mark (changes_from ns 0 n) k ≡ true
+  mark_open : (k : ℕ) → MarkFits ns k → open_mark (changes_from ns 0 n) k ≡ true
   unfolding open_mark
-  mark-open zero f = refl
-  mark-open (suc k) f =
+  mark_open zero f = refl
+  mark_open (suc k) f =
       let g : (2 * suc k ≤ last ns) × (get_or ns (2 * suc k) 0 ≡ 0) = f (omega arith) in
       let z : Change = record { author = 0; became = 3 } in
       let e : get_or (changes_from ns 0 n) k z ≡ change_at ns k = rw zero-add at (change_in ns 0 n k z (omega arith)) in
       let d : 2 + 2 * k ≡ 2 * suc k = omega arith in
       eq-eqb _ 0 (ap (λ (c : Change). c.became) e ∙ (ap (λ (i : ℕ). get_or ns i 0) d ∙ g.1))
 
-  open-mark-fits : (k : ℕ) → open_mark (changes_from ns 0 n) k ≡ true → MarkFits ns k
+  open_mark_fits : (k : ℕ) → open_mark (changes_from ns 0 n) k ≡ true → MarkFits ns k
   unfolding open_mark
-  open-mark-fits zero o h = absurd (omega arith)
-  open-mark-fits (suc k) o h =
+  open_mark_fits zero o h = absurd (omega arith)
+  open_mark_fits (suc k) o h =
       let z : Change = record { author = 0; became = 3 } in
       let b : (get_or (changes_from ns 0 n) k z).became ≡ 0 = eqb-true _ _ o in
       elim (cases_lt k n) [
@@ -56,19 +56,19 @@ module _ (ns : List ℕ) (n m : ℕ) (long : length ns ≡ 1 + 2 * n + 4 * m) (f
             (record {
               letter = (f i (omega arith)).letter (omega arith) (omega arith);
               style = (f (i + 1) (omega arith)).style (omega arith) (omega arith);
-              put_in = mark-open _ ((f (i + 2) (omega arith)).mark (omega arith) (omega arith));
-              struck = mark-open _ ((f (i + 3) (omega arith)).mark (omega arith) (omega arith));
+              put_in = mark_open _ ((f (i + 2) (omega arith)).mark (omega arith) (omega arith));
+              struck = mark_open _ ((f (i + 3) (omega arith)).mark (omega arith) (omega arith));
             });
       }
 
   -- change number k and cell number k fit, as the numbers tell them
-  change-fits : Fits (paper_of ns n m) → (k : ℕ) → k < n → ChangeFits (change_at ns k)
-  change-fits g k h =
+  change_fits : Fits (paper_of ns n m) → (k : ℕ) → k < n → ChangeFits (change_at ns k)
+  change_fits g k h =
       let e : get_or (changes_from ns 0 n) k no_change ≡ change_at ns k = rw zero-add at (change_in ns 0 n k no_change h) in
       rw e at (g.changes k (omega (arith, length_changes ns 0 n)))
 
-  cell-fits : Fits (paper_of ns n m) → (k : ℕ) → k < m → CellFits (changes_from ns 0 n) (cell_at ns (1 + 2 * n + 4 * k))
-  cell-fits g k h = rw (cell_in ns (1 + 2 * n) m k no_cell h) at (g.cells k (omega (arith, length_cells ns (1 + 2 * n) m)))
+  cell_fits : Fits (paper_of ns n m) → (k : ℕ) → k < m → CellFits (changes_from ns 0 n) (cell_at ns (1 + 2 * n + 4 * k))
+  cell_fits g k h = rw (cell_in ns (1 + 2 * n) m k no_cell h) at (g.cells k (omega (arith, length_cells ns (1 + 2 * n) m)))
 
   pub passes : Fits (paper_of ns n m) → (i : ℕ) → i < length ns → NumberFits ns i
   passes g i h =
@@ -79,27 +79,27 @@ module _ (ns : List ℕ) (n m : ℕ) (long : length ns ≡ 1 + 2 * n + 4 * m) (f
         count = λ e. rw e (omega (arith, g.few_changes));
         author = λ p q r.
             let e : i ≡ 1 + 2 * (i / 2) = omega arith in
-            let c : get_or ns (1 + 2 * (i / 2)) 0 < 256 = (change-fits g (i / 2) (omega arith)).author in
+            let c : get_or ns (1 + 2 * (i / 2)) 0 < 256 = (change_fits g (i / 2) (omega arith)).author in
             omega (arith, ap (λ (j : ℕ). get_or ns j 0) e);
         became = λ p q r.
             let e : i ≡ 2 + 2 * (i / 2 - 1) = omega arith in
-            let c : get_or ns (2 + 2 * (i / 2 - 1)) 0 < 3 = (change-fits g (i / 2 - 1) (omega arith)).became in
+            let c : get_or ns (2 + 2 * (i / 2 - 1)) 0 < 3 = (change_fits g (i / 2 - 1) (omega arith)).became in
             omega (arith, ap (λ (j : ℕ). get_or ns j 0) e);
         few = λ p. omega (arith, g.few_cells);
         letter = λ p r.
             let e : 1 + 2 * n + 4 * k ≡ i = omega arith in
-            rw e at (cell-fits g k (omega arith)).letter;
+            rw e at (cell_fits g k (omega arith)).letter;
         style = λ p r.
             let e : 1 + 2 * n + 4 * k + 1 ≡ i = omega arith in
-            rw e at (cell-fits g k (omega arith)).style;
+            rw e at (cell_fits g k (omega arith)).style;
         mark = λ p r.
             elim (cases_lt ((i - 1 - last ns) % 4) 3) [
               | inl two ↦
                   let e : 1 + 2 * n + 4 * k + 2 ≡ i = omega arith in
-                  rw e at (open-mark-fits _ (cell-fits g k (omega arith)).put_in)
+                  rw e at (open_mark_fits _ (cell_fits g k (omega arith)).put_in)
               | inr three ↦
                   let e : 1 + 2 * n + 4 * k + 3 ≡ i = omega arith in
-                  rw e at (open-mark-fits _ (cell-fits g k (omega arith)).struck)
+                  rw e at (open_mark_fits _ (cell_fits g k (omega arith)).struck)
             ];
       }
 

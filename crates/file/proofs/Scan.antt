@@ -90,11 +90,11 @@ begun_none text start h =
     record { word = []; split = refl; long = omega arith; fits = record { digits = tt; small = omega arith }; worth = refl; within = h }
 
 module _ (text : List ℕ) (start end v : ℕ) (b : Begun text start end v) where
-  begun-next : end < length text → white (get_or text end 0) ≡ false → words (drop start text) ≡ words_after (b.word ++ (get_or text end 0 ∷ [])) (drop (end + 1) text)
-  begun-next h e = b.split ∙ (ap (words_after b.word) (drop_more text end 0 h) ∙ words_more b.word (get_or text end 0) (drop (end + 1) text) e)
+  begun_next : end < length text → white (get_or text end 0) ≡ false → words (drop start text) ≡ words_after (b.word ++ (get_or text end 0 ∷ [])) (drop (end + 1) text)
+  begun_next h e = b.split ∙ (ap (words_after b.word) (drop_more text end 0 h) ∙ words_more b.word (get_or text end 0) (drop (end + 1) text) e)
 
-  worth-next : (c : ℕ) → value (b.word ++ (c ∷ [])) ≡ 10 * v + (c - 48)
-  worth-next c = omega (arith, value_push 0 b.word c, b.worth)
+  worth_next : (c : ℕ) → value (b.word ++ (c ∷ [])) ≡ 10 * v + (c - 48)
+  worth_next c = omega (arith, value_push 0 b.word c, b.worth)
 
   pub begun_more : end < length text → white (get_or text end 0) ≡ false → Digit (get_or text end 0) → (u : ℕ) → u ≡ 10 * v + (get_or text end 0 - 48) → u < 4294967296
       → Begun text start (end + 1) u
@@ -102,16 +102,16 @@ module _ (text : List ℕ) (start end v : ℕ) (b : Begun text start end v) wher
       let c : ℕ = get_or text end 0 in
       record {
         word = b.word ++ (c ∷ []);
-        split = begun-next h e;
+        split = begun_next h e;
         long = omega (arith, b.long, length_push b.word c);
-        fits = record { digits = All-push Digit b.word c b.fits.digits d; small = omega (arith, worth-next c) };
-        worth = omega (arith, worth-next c);
+        fits = record { digits = All-push Digit b.word c b.fits.digits d; small = omega (arith, worth_next c) };
+        worth = omega (arith, worth_next c);
         within = omega arith;
       }
 
-  pub begun-bad : end < length text → white (get_or text end 0) ≡ false → (Digit (get_or text end 0) → 10 * v + (get_or text end 0 - 48) < 4294967296 → ⊥)
+  pub begun_bad : end < length text → white (get_or text end 0) ≡ false → (Digit (get_or text end 0) → 10 * v + (get_or text end 0 - 48) < 4294967296 → ⊥)
       → NoNumber text start
-  begun-bad h e bad =
+  begun_bad h e bad =
       let c : ℕ = get_or text end 0 in
       let w : List ℕ = b.word ++ (c ∷ []) in
       let long : length w ≡ length b.word + 1 = length_push b.word c in
@@ -119,15 +119,15 @@ module _ (text : List ℕ) (start end v : ℕ) (b : Begun text start end v) wher
       record {
         word = w ++ f.0;
         more = f.1;
-        is = begun-next h e ∙ f.2;
+        is = begun_next h e ∙ f.2;
         fits = λ g.
             let d : Digit (get_or (w ++ f.0) (length b.word) 0) = All-get_or Digit (w ++ f.0) (length b.word) 0 (omega (arith, length-append w f.0)) g.digits in
             let a : get_or (w ++ f.0) (length b.word) 0 ≡ c = get_or_append_left w f.0 0 (length b.word) (omega arith) ∙ get_or_push b.word c 0 (length b.word) refl in
-            bad (rw a at d) (omega (arith, g.small, value_front 0 w f.0, worth-next c));
+            bad (rw a at d) (omega (arith, g.small, value_front 0 w f.0, worth_next c));
       }
 
-  pub begun-end : start < length text → white (get_or text start 0) ≡ false → (end < length text → white (get_or text end 0) ≡ true) → NumberAt text start v end
-  begun-end h n e =
+  pub begun_end : start < length text → white (get_or text start 0) ≡ false → (end < length text → white (get_or text end 0) ≡ true) → NumberAt text start v end
+  begun_end h n e =
       let later : start < end =
       elim (cases_lt start end) [
         | inl l ↦ l
@@ -207,12 +207,12 @@ module _ (text old out : List ℕ) (at count : ℕ) (r : Reads text old out at c
         why = rw g why;
       }
 
-  pub reads-full : count ≡ length old → at < length text → Stops text old out count
-  reads-full e h =
+  pub reads_full : count ≡ length old → at < length text → Stops text old out count
+  reads_full e h =
       let c : ℕ = get_or text at 0 in
       let d = drop_more text at 0 h in
       let f = first_word (c ∷ []) (drop (at + 1) text) (omega arith) in
       stops ((c ∷ []) ++ f.0) f.1 (ap words d ∙ (words_more [] c (drop (at + 1) text) (r.next h) ∙ f.2)) (inl e)
 
-  pub reads-bad : NoNumber text at → Stops text old out count
-  reads-bad n = stops n.word n.more n.is (inr n.fits)
+  pub reads_bad : NoNumber text at → Stops text old out count
+  reads_bad n = stops n.word n.more n.is (inr n.fits)

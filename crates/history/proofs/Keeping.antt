@@ -437,8 +437,8 @@ front_state s =
 
 module _ (u mid new : List ℕ) (s : State) (k : Headed u s) (a : s.start ≤ s.end) (b : 16 + s.end ≤ length u)
     (is : mid ≡ paste u 16 (drop (16 + s.start) u) (16 + s.end - (16 + s.start))) (same : drop 7 new ≡ drop 7 mid) (long : length new ≡ length u) where
-  front-words : between 16 (16 + (s.end - s.start)) new ≡ between (16 + s.start) (16 + s.end) u
-  front-words =
+  front_words : between 16 (16 + (s.end - s.start)) new ≡ between (16 + s.start) (16 + s.end) u
+  front_words =
       let n : ℕ = 16 + s.end - (16 + s.start) in
       let part : List ℕ = take n (drop (16 + s.start) u) in
       let first : length (take 16 u) ≡ 16 = length-take-le 16 u (omega arith) in
@@ -459,14 +459,14 @@ module _ (u mid new : List ℕ) (s : State) (k : Headed u s) (a : s.start ≤ s.
       sym (drop-drop n 16 mid) ∙ ap (λ xs. drop n (drop 16 xs)) (is ∙ append_assoc (take 16 u) part (drop (16 + n) u)) ∙ ap (drop n) (drop_at (take 16 u) (part ++ drop (16 + n) u) 16 first) ∙ drop_at part (drop (16 + n) u) n second in
       from_on mid new 7 i (omega arith) same ∙ from_on u mid (16 + n) i (omega arith) at
 
-  pub front-stays : Headed new (front_state s) → Stays u new
-  front-stays q limit back ahead h =
+  pub front_stays : Headed new (front_state s) → Stays u new
+  front_stays q limit back ahead h =
       let w = logged_now u s limit back ahead h k in
       let begun : 16 + s.start ≤ 16 + s.cursor = w.begun in
       let ended : 16 + s.cursor ≤ 16 + s.end = w.ended in
       let m : Logged new 16 (16 + (s.cursor - s.start)) (16 + (s.end - s.start)) back ahead =
       log_moves_to u new (16 + s.start) (16 + s.cursor) (16 + s.end) 16 (16 + (s.cursor - s.start)) (16 + (s.end - s.start)) back ahead w (omega arith) (omega arith)
-      front-words (omega arith) in
+      front_words (omega arith) in
       record {
         words =
             logged_at new 16 (16 + (s.cursor - s.start)) (16 + (s.end - s.start)) (start_of new) (cursor_of new) (end_of new) back ahead m

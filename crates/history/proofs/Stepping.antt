@@ -127,18 +127,18 @@ writes_call_of (was_styled i s old) = refl
 
 -- what a sane entry gives: plain bounds before and after, the paper before from the paper after, and a paper after that is within the limits
 module _ (l : Limits) (e : Entry) (before next : Paper) (m : Made l e before next) where
-  pub made-can : Can before (call_of e)
-  made-can = can_there (desk_of before [] []) (call_of e) (writes_call_of e) (not_turned l (desk_of before [] []) (call_of e) m.allowed).1
+  pub made_can : Can before (call_of e)
+  made_can = can_there (desk_of before [] []) (call_of e) (writes_call_of e) (not_turned l (desk_of before [] []) (call_of e) m.allowed).1
 
-  pub made-undone : undo_of e next ≡ before
-  made-undone = let u = undo_brings_back before (call_of e) made-can in cc
+  pub made_undone : undo_of e next ≡ before
+  made_undone = let u = undo_brings_back before (call_of e) made_can in cc
 
-  pub made-fits : fits l next ≡ true
-  made-fits = subst (λ p. fits l p ≡ true) m.paper (not_turned l (desk_of before [] []) (call_of e) m.allowed).2
+  pub made_fits : fits l next ≡ true
+  made_fits = subst (λ p. fits l p ≡ true) m.paper (not_turned l (desk_of before [] []) (call_of e) m.allowed).2
 
-  pub made-finds : UndoCan e next
-  made-finds =
-      let u = undo_finds before (call_of e) made-can in
+  pub made_finds : UndoCan e next
+  made_finds =
+      let u = undo_finds before (call_of e) made_can in
       subst (λ (x : Paper). UndoCan e x) m.paper (subst (λ (x : Entry). UndoCan x (rewritten before (call_of e))) m.entry u)
 
 -- A desk that a paper and its entries stand for is that of the paper and the entries.
@@ -264,7 +264,7 @@ redo_at l p e back ahead h k =
     let q : Paper = redo_of e p in
     let t : turned l d redo ≡ 0 = (redo_turned_at l p back (e ∷ ahead) h k).0 ∙ ap (λ b. pick {A = ℕ} b 7 0) (eqb-suc-zero (length ahead)) in
     let m : Made l e p q = h.before.0 in
-    let again : p ≡ undo_of e q = sym (made-undone l e p q m) in
+    let again : p ≡ undo_of e q = sym (made_undone l e p q m) in
     let past : record { paper = p; much = much_of e } ∷ past_of back p ≡ past_of (e ∷ back) q =
     ap (λ (x : Paper). record { paper = x; much = much_of e } ∷ past_of back x) again in
     let behind : SaneBack l (e ∷ back) q = subst (λ (x : Paper). Made l e x q × SaneBack l back x) again (m, h.behind) in
@@ -273,7 +273,7 @@ redo_at l p e back ahead h k =
       now = refl;
       past = past;
       future = refl;
-      sane = record { fit = made-fits l e p q m; behind = behind; before = h.before.1; within = omega arith };
+      sane = record { fit = made_fits l e p q m; behind = behind; before = h.before.1; within = omega arith };
     })
 
 pub undo_steps : UndoSteps
@@ -359,24 +359,24 @@ module _ (l : Limits) (p : Paper) (back ahead : List Entry) (d : Desk) (st : Sta
   unfolding Standing
   same c h = (p, back, ahead, looking_keeps l p back ahead d c st h)
 
-  step-done : (c : Call) → turned l d c ≡ 0 → Standing l (after l d c)
+  step_done : (c : Call) → turned l d c ≡ 0 → Standing l (after l d c)
   unfolding writes call_number
-  step-done (put a i s ls) t = wrote (put a i s ls) refl t
-  step-done (strikes a i n) t = wrote (strikes a i n) refl t
-  step-done (accepts c) t = wrote (accepts c) refl t
-  step-done (rejects c) t = wrote (rejects c) refl t
-  step-done (styles i n s) t = wrote (styles i n s) refl t
-  step-done undo t = undo_one l p back ahead d st t
-  step-done redo t = redo_one l p back ahead d st t
-  step-done (show k w r n) t = same (show k w r n) (omega arith)
-  step-done (find k i ls) t = same (find k i ls) (omega arith)
-  step-done (count k) t = same (count k) (omega arith)
-  step-done (change c) t = same (change c) (omega arith)
-  step-done (save i n) t = same (save i n) (omega arith)
+  step_done (put a i s ls) t = wrote (put a i s ls) refl t
+  step_done (strikes a i n) t = wrote (strikes a i n) refl t
+  step_done (accepts c) t = wrote (accepts c) refl t
+  step_done (rejects c) t = wrote (rejects c) refl t
+  step_done (styles i n s) t = wrote (styles i n s) refl t
+  step_done undo t = undo_one l p back ahead d st t
+  step_done redo t = redo_one l p back ahead d st t
+  step_done (show k w r n) t = same (show k w r n) (omega arith)
+  step_done (find k i ls) t = same (find k i ls) (omega arith)
+  step_done (count k) t = same (count k) (omega arith)
+  step_done (change c) t = same (change c) (omega arith)
+  step_done (save i n) t = same (save i n) (omega arith)
 
   step : (c : Call) (n : ℕ) → turned l d c ≡ n → Standing l (after l d c)
   unfolding Standing
-  step c zero t = step-done c t
+  step c zero t = step_done c t
   step c (suc n) t = (p, back, ahead, turned_keeps l p back ahead d c st (omega arith))
 
 stands_ran : (l : Limits) (cs : List Call) (d : Desk) → Standing l d → Standing l (ran l d cs)

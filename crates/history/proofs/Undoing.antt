@@ -197,24 +197,24 @@ module _ (went : Cell → Bool) (x y : Cell) (ys zs : List Cell) (i : ℕ) (ms :
   placed_one true e ih = let n : length zs ≡ length ys = ap length e in (omega arith, placed_at _ _ (omega arith) ih)
   placed_one false e ih = let n : length zs ≡ suc (length ys) = ap length e in (omega arith, placed_at _ _ (omega arith) ih)
 
-  placed-step : (t : Bool) → zs ≡ pick (went x) ys (y ∷ ys) → (t ≡ false → zs ≡ x ∷ ys) → Placed went ms (suc i + length ys) →
+  placed_step : (t : Bool) → zs ≡ pick (went x) ys (y ∷ ys) → (t ≡ false → zs ≡ x ∷ ys) → Placed went ms (suc i + length ys) →
       Placed went (pick t (record { place = i; cell = x } ∷ ms) ms) (i + length zs)
   unfolding Placed
-  placed-step true f g ih = placed_one (went x) f ih
-  placed-step false f g ih = let n : length zs ≡ suc (length ys) = ap length (g refl) in placed_at _ _ (omega arith) ih
+  placed_step true f g ih = placed_one (went x) f ih
+  placed_step false f g ih = let n : length zs ≡ suc (length ys) = ap length (g refl) in placed_at _ _ (omega arith) ih
 
 placed_accept : (xs : List Cell) (c i : ℕ) → Placed (goes_accepted c) (marks_of xs c i) (i + length (accept xs c))
 unfolding accept marks_of Placed
 placed_accept [] c i = tt
 placed_accept (x ∷ xs) c i =
-    placed-step (goes_accepted c) x _ (accept xs c) _ i (marks_of xs c (suc i)) (eqb x.put_in (suc c) || eqb x.struck (suc c)) refl
+    placed_step (goes_accepted c) x _ (accept xs c) _ i (marks_of xs c (suc i)) (eqb x.put_in (suc c) || eqb x.struck (suc c)) refl
     (λ t. let o = or_parts (eqb x.put_in (suc c)) (eqb x.struck (suc c)) t in rw (o.0, o.1)) (placed_accept xs c (suc i))
 
 placed_reject : (xs : List Cell) (c i : ℕ) → Placed (goes_rejected c) (marks_of xs c i) (i + length (reject xs c))
 unfolding reject marks_of Placed
 placed_reject [] c i = tt
 placed_reject (x ∷ xs) c i =
-    placed-step (goes_rejected c) x _ (reject xs c) _ i (marks_of xs c (suc i)) (eqb x.put_in (suc c) || eqb x.struck (suc c)) refl
+    placed_step (goes_rejected c) x _ (reject xs c) _ i (marks_of xs c (suc i)) (eqb x.put_in (suc c) || eqb x.struck (suc c)) refl
     (λ t. let o = or_parts (eqb x.put_in (suc c)) (eqb x.struck (suc c)) t in rw (o.0, o.1)) (placed_reject xs c (suc i))
 
 -- as many stay as are there

@@ -8,8 +8,8 @@ use Rattle.pieces.specs.declared.Spot.{Spot}
 use Rattle.layout.specs.declared.Row.{Row}
 use Rattle.layout.specs.Spots.{left}
 use Rattle.layout.specs.Found.{ahead, GoesOn, Found, RowIs}
-use Rattle.layout.proofs.Spots.{left-seen, left_end}
-use Rattle.layout.proofs.Scan.{Scan, scan-next, scan-some, scan-end, scan-more, scan-full, scan_all}
+use Rattle.layout.proofs.Spots.{left_seen, left_end}
+use Rattle.layout.proofs.Scan.{Scan, scan_next, scan_some, scan_end, scan_more, scan_full, scan_all}
 
 -- the last space so far: one more than its place, or 0 for none, and the row that goes to it
 abbrev pub spaced : Option Row → ℕ
@@ -55,7 +55,7 @@ module _ (c p : List ℕ) (s way w : ℕ) (t : Spot) (k j long : ℕ) (space : O
 
   scan : Scan w xs (x ∷ left c p s way k (j + 1)) long (spaced space)
   unfolding xs
-  scan = subst (λ now. Scan w (ahead c p s way t) now long (spaced space)) (left-seen c p s way k j x here within is sees) h.scan
+  scan = subst (λ now. Scan w (ahead c p s way t) now long (spaced space)) (left_seen c p s way k j x here within is sees) h.scan
 
   -- the row that goes to this letter
   abbrev to : Row
@@ -65,42 +65,42 @@ module _ (c p : List ℕ) (s way w : ℕ) (t : Spot) (k j long : ℕ) (space : O
   full = record { from = t; long = w; next = record { piece = k; offset = j } }
 
   some : 0 < length xs
-  some = let l = scan-some w xs x (left c p s way k (j + 1)) long (spaced space) scan in omega arith
+  some = let l = scan_some w xs x (left c p s way k (j + 1)) long (spaced space) scan in omega arith
 
   goes_to : GoesOn c p s way t (long + 1) to
   unfolding xs
   goes_to =
-      record { from = refl; spot = record { piece = omega arith; offset = omega arith }; rest = sym (scan-next w xs x (left c p s way k (j + 1)) long (spaced space) scan) }
+      record { from = refl; spot = record { piece = omega arith; offset = omega arith }; rest = sym (scan_next w xs x (left c p s way k (j + 1)) long (spaced space) scan) }
 
-  goes-full : long ≡ w → GoesOn c p s way t w full
-  goes-full l = record { from = refl; spot = record { piece = omega arith; offset = omega arith }; rest = rw (sym l) (sym h.scan.rest) }
+  goes_full : long ≡ w → GoesOn c p s way t w full
+  goes_full l = record { from = refl; spot = record { piece = omega arith; offset = omega arith }; rest = rw (sym l) (sym h.scan.rest) }
 
-  pub sought-end : x.letter ≡ 10 → Found c p s way w t to
+  pub sought_end : x.letter ≡ 10 → Found c p s way w t to
   unfolding xs
-  sought-end l = found c p s way w t to 1 (scan-end w xs x (left c p s way k (j + 1)) long (spaced space) scan l) some goes_to
+  sought_end l = found c p s way w t to 1 (scan_end w xs x (left c p s way k (j + 1)) long (spaced space) scan l) some goes_to
 
-  spaces-row : (next : Option Row) → Spaces x to space next → SpaceRow c p s way t next
-  spaces-row next (inl (l, is)) =
+  spaces_row : (next : Option Row) → Spaces x to space next → SpaceRow c p s way t next
+  spaces_row next (inl (l, is)) =
       let n : long + 1 ≡ suc long = omega arith in
       rw is (subst (λ m. GoesOn c p s way t m to) n goes_to)
-  spaces-row next (inr (l, is)) = rw is h.row
+  spaces_row next (inr (l, is)) = rw is h.row
 
-  spaces-at : (next : Option Row) → Spaces x to space next → pick (eqb x.letter 32) (suc long) (spaced space) ≡ spaced next
-  spaces-at next (inl (l, is)) = rw (is, eq-eqb _ _ l)
-  spaces-at next (inr (l, is)) = rw (is, ne_eqb _ _ l)
+  spaces_at : (next : Option Row) → Spaces x to space next → pick (eqb x.letter 32) (suc long) (spaced space) ≡ spaced next
+  spaces_at next (inl (l, is)) = rw (is, eq-eqb _ _ l)
+  spaces_at next (inr (l, is)) = rw (is, ne_eqb _ _ l)
 
-  pub sought-more : (x.letter ≡ 10 → ⊥) → long + 1 ≤ w → (next : Option Row) → Spaces x to space next → Sought c p s way w t k (j + 1) (long + 1) next
+  pub sought_more : (x.letter ≡ 10 → ⊥) → long + 1 ≤ w → (next : Option Row) → Spaces x to space next → Sought c p s way w t k (j + 1) (long + 1) next
   unfolding xs
-  sought-more ne lw next sp =
-      record { scan = rw (sym (spaces-at next sp)) (scan-more w xs x (left c p s way k (j + 1)) long (spaced space) scan ne (omega arith)); row = spaces-row next sp }
+  sought_more ne lw next sp =
+      record { scan = rw (sym (spaces_at next sp)) (scan_more w xs x (left c p s way k (j + 1)) long (spaced space) scan ne (omega arith)); row = spaces_row next sp }
 
-  pub sought-full : (x.letter ≡ 10 → ⊥) → w < long + 1 → (next : Option Row) → Spaces x to space next → (r : Row) → r ≡ unwrap_or next full → Found c p s way w t r
+  pub sought_full : (x.letter ≡ 10 → ⊥) → w < long + 1 → (next : Option Row) → Spaces x to space next → (r : Row) → r ≡ unwrap_or next full → Found c p s way w t r
   unfolding xs
-  sought-full ne lw next sp r is =
+  sought_full ne lw next sp r is =
       let f = h.scan.fits in
       let l : long ≡ w = omega arith in
       found_broken c p s way w t next full
-      (scan-full w xs x (left c p s way k (j + 1)) long (spaced space) scan ne l ∙ ap (cut_after w) (spaces-at next sp)) some (spaces-row next sp) refl (goes-full l) r is
+      (scan_full w xs x (left c p s way k (j + 1)) long (spaced space) scan ne l ∙ ap (cut_after w) (spaces_at next sp)) some (spaces_row next sp) refl (goes_full l) r is
 
 -- the same spot by another name
 pub sought_same : (c p : List ℕ) (s way w : ℕ) (t : Spot) (k j k' j' long : ℕ) (space : Option Row) → left c p s way k j ≡ left c p s way k' j'
@@ -109,20 +109,20 @@ sought_same c p s way w t k j k' j' long space e h = record { scan = subst (λ n
 
 -- nothing is left
 module _ (c p : List ℕ) (s way w : ℕ) (t : Spot) (k j long : ℕ) (space : Option Row) (h : Sought c p s way w t k j long space) (e : k ≡ s) where
-  scan-end-of-text : Scan w (ahead c p s way t) [] long (spaced space)
-  scan-end-of-text = subst (λ now. Scan w (ahead c p s way t) now long (spaced space)) (left_end c p s way k j e) h.scan
+  scan_end_of_text : Scan w (ahead c p s way t) [] long (spaced space)
+  scan_end_of_text = subst (λ now. Scan w (ahead c p s way t) now long (spaced space)) (left_end c p s way k j e) h.scan
 
-  pub sought-none : long ≡ 0 → ahead c p s way t ≡ []
-  sought-none z = let r = scan-end-of-text.rest in rw z at r
+  pub sought_none : long ≡ 0 → ahead c p s way t ≡ []
+  sought_none z = let r = scan_end_of_text.rest in rw z at r
 
-  pub sought-all : (long ≡ 0 → ⊥) → Found c p s way w t (record { from = t; long = long; next = record { piece = s; offset = 0 } })
-  sought-all nz =
+  pub sought_all : (long ≡ 0 → ⊥) → Found c p s way w t (record { from = t; long = long; next = record { piece = s; offset = 0 } })
+  sought_all nz =
       let r : Row = record { from = t; long = long; next = record { piece = s; offset = 0 } } in
-      let l = scan-end-of-text.within in
+      let l = scan_end_of_text.within in
       let n : long ≡ long + 0 = omega arith in
-      found c p s way w t r 0 (scan_all w (ahead c p s way t) long (spaced space) scan-end-of-text) (omega arith)
+      found c p s way w t r 0 (scan_all w (ahead c p s way t) long (spaced space) scan_end_of_text) (omega arith)
       (subst (λ m. GoesOn c p s way t m r) n
-      (record { from = refl; spot = record { piece = omega arith; offset = omega arith }; rest = left_end c p s way s 0 refl ∙ sym scan-end-of-text.rest }))
+      (record { from = refl; spot = record { piece = omega arith; offset = omega arith }; rest = left_end c p s way s 0 refl ∙ sym scan_end_of_text.rest }))
 
 -- a row is found where something is left
 pub is_found : (c p : List ℕ) (s way w : ℕ) (t : Spot) (o : Option Row) → RowIs c p s way w t o → 0 < length (ahead c p s way t) → is_some o ≡ true

@@ -14,16 +14,16 @@ unfolding rest
 pass_start c p s way w t h = record { spot = h; enough = omega arith; left = refl }
 
 module _ (c p : List ℕ) (s way w : ℕ) (t : Spot) (i : ℕ) (u : Spot) (wide : 0 < w) (h : Passed c p s way w t i u) where
-  pub pass-none : ahead c p s way u ≡ [] → length (rows w (ahead c p s way t)) ≤ i
-  pass-none e =
+  pub pass_none : ahead c p s way u ≡ [] → length (rows w (ahead c p s way t)) ≤ i
+  pass_none e =
       let l = h.left in
       let n : length (rest w i (ahead c p s way t)) ≡ 0 = ap length (sym l ∙ e) in
       let a = (rows_left w i (ahead c p s way t) wide).0 in
       elim (cases_lt i (length (rows w (ahead c p s way t)))) [ inl k ↦ absurd (let z = a k in omega arith) | inr k ↦ k ]
 
-  pub pass-more : (r : Row) → Found c p s way w u r → Passed c p s way w t (i + 1) r.next
+  pub pass_more : (r : Row) → Found c p s way w u r → Passed c p s way w t (i + 1) r.next
   unfolding rest
-  pass-more r f =
+  pass_more r f =
       let l = h.left in
       let n : 0 < length (rest w i (ahead c p s way t)) = rw (sym l) f.some in
       let a = (rows_left w i (ahead c p s way t) wide).1 n in

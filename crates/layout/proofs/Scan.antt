@@ -50,17 +50,17 @@ cut_broken w xs f e l h = rw (e, lt-leb (length xs) w l, h) refl
 
 module _ (w : ℕ) (xs : List Cell) (x : Cell) (now : List Cell) (i f : ℕ) (h : Scan w xs (x ∷ now) i f) where
   -- one letter further
-  pub scan-next : drop (i + 1) xs ≡ now
-  scan-next = sym (drop-drop 1 i xs) ∙ ap (drop 1) h.rest
+  pub scan_next : drop (i + 1) xs ≡ now
+  scan_next = sym (drop-drop 1 i xs) ∙ ap (drop 1) h.rest
 
-  pub scan-some : i < length xs
-  scan-some = let e = ap length h.rest in omega (arith, length-drop i xs)
+  pub scan_some : i < length xs
+  scan_some = let e = ap length h.rest in omega (arith, length-drop i xs)
 
   room : suc w - i ≡ suc (w - i)
   room = let k = h.fits in omega arith
 
-  pub scan-end : x.letter ≡ 10 → cut w xs ≡ record { long = i; skips = 1 }
-  scan-end e = cut_ended w xs i (h.end ∙ first_end_at x now (suc w - i) (w - i) i room ∙ rw (eq-eqb _ _ e) refl)
+  pub scan_end : x.letter ≡ 10 → cut w xs ≡ record { long = i; skips = 1 }
+  scan_end e = cut_ended w xs i (h.end ∙ first_end_at x now (suc w - i) (w - i) i room ∙ rw (eq-eqb _ _ e) refl)
 
   no_end : (x.letter ≡ 10 → ⊥) → first_end xs (suc w) 0 ≡ first_end now (w - i) (suc i)
   no_end ne = h.end ∙ first_end_at x now (suc w - i) (w - i) i room ∙ rw (ne_eqb _ _ ne) refl
@@ -68,24 +68,24 @@ module _ (w : ℕ) (xs : List Cell) (x : Cell) (now : List Cell) (i f : ℕ) (h 
   spaces : last_space xs (suc w) 0 0 ≡ last_space now (w - i) (suc i) (pick (eqb x.letter 32) (suc i) f)
   spaces = h.space ∙ last_space_at x now (suc w - i) (w - i) i f room
 
-  pub scan-more : (x.letter ≡ 10 → ⊥) → i < w → Scan w xs now (i + 1) (pick (eqb x.letter 32) (suc i) f)
-  scan-more ne l =
-      let some = scan-some in
+  pub scan_more : (x.letter ≡ 10 → ⊥) → i < w → Scan w xs now (i + 1) (pick (eqb x.letter 32) (suc i) f)
+  scan_more ne l =
+      let some = scan_some in
       let n : suc w - (i + 1) ≡ w - i = omega arith in
       let m : i + 1 ≡ suc i = omega arith in
-      record { fits = omega arith; within = omega arith; rest = scan-next; end = rw (n, m) (no_end ne); space = rw (n, m) spaces }
+      record { fits = omega arith; within = omega arith; rest = scan_next; end = rw (n, m) (no_end ne); space = rw (n, m) spaces }
 
   -- the first letter that does not fit
-  pub scan-full : (x.letter ≡ 10 → ⊥) → i ≡ w → cut w xs ≡ cut_after w (pick (eqb x.letter 32) (suc i) f)
-  scan-full ne e =
-      let some = scan-some in
+  pub scan_full : (x.letter ≡ 10 → ⊥) → i ≡ w → cut w xs ≡ cut_after w (pick (eqb x.letter 32) (suc i) f)
+  scan_full ne e =
+      let some = scan_some in
       let z : w - i ≡ 0 = omega arith in
       cut_broken w xs (pick (eqb x.letter 32) (suc i) f)
       (no_end ne ∙ rw z (first_end_none now (suc i))) (omega arith) (spaces ∙ rw z (last_space_none now (suc i) (pick (eqb x.letter 32) (suc i) f)))
 
 -- nothing is left
 pub scan_all : (w : ℕ) (xs : List Cell) (i f : ℕ) → Scan w xs [] i f → cut w xs ≡ record { long = i; skips = 0 }
-scan_all w xs i f h = cut_short w xs i (h.end ∙ first_end_nil (suc w - i) i) (scan-length w xs i f h) h.fits
+scan_all w xs i f h = cut_short w xs i (h.end ∙ first_end_nil (suc w - i) i) (scan_length w xs i f h) h.fits
   where
-    scan-length : (w : ℕ) (xs : List Cell) (i f : ℕ) → Scan w xs [] i f → length xs ≡ i
-    scan-length w xs i f h = let e = ap length h.rest in let k = h.within in omega (arith, length-drop i xs)
+    scan_length : (w : ℕ) (xs : List Cell) (i f : ℕ) → Scan w xs [] i f → length xs ≡ i
+    scan_length w xs i f h = let e = ap length h.rest in let k = h.within in omega (arith, length-drop i xs)

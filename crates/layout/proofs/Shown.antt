@@ -19,19 +19,19 @@ module _ (c p : List ℕ) (s way w : ℕ) where
   abbrev all : List (List Cell)
   all = rows w (view way (cells_of c p s))
 
-  all-rows : rows w (ahead c p s way start) ≡ all
-  all-rows = ap (rows w) (left_all c p s way)
+  all_rows : rows w (ahead c p s way start) ≡ all
+  all_rows = ap (rows w) (left_all c p s way)
 
   -- fewer rows than are to be passed
   pub too_few : (first n : ℕ) (out : List ℕ) → length (rows w (ahead c p s way start)) < first → ShowsNone all first n out out
-  too_few first n out h = let e = ap length all-rows in record { short = omega arith; same = refl }
+  too_few first n out h = let e = ap length all_rows in record { short = omega arith; same = refl }
 
   module _ (wide : 0 < w) (first : ℕ) (u : Spot) (h : Passed c p s way w start first u) where
     rows_from : rows w (ahead c p s way u) ≡ drop first all
-    rows_from = ap (rows w) h.left ∙ sym (rows_rest w first (ahead c p s way start) wide) ∙ ap (drop first) all-rows
+    rows_from = ap (rows w) h.left ∙ sym (rows_rest w first (ahead c p s way start) wide) ∙ ap (drop first) all_rows
 
-    pub too-few-after : (n : ℕ) (out : List ℕ) → length (rows w (ahead c p s way u)) < n → ShowsNone all first n out out
-    too-few-after n out l =
+    pub too_few_after : (n : ℕ) (out : List ℕ) → length (rows w (ahead c p s way u)) < n → ShowsNone all first n out out
+    too_few_after n out l =
         let e = ap length rows_from in
         let d = length-drop first all in
         record { short = omega arith; same = refl }
@@ -41,6 +41,6 @@ module _ (c p : List ℕ) (s way w : ℕ) where
     shows n out out' r l b e =
         let f = ap length rows_from in
         let d = length-drop first all in
-        let g = ap length all-rows in
+        let g = ap length all_rows in
         let k = h.enough in
         record { there = omega arith; bytes = rw (sym rows_from) b; long = rw (sym rows_from) e }

@@ -44,15 +44,15 @@ abbrev pub span : List ℕ → List ℕ → ℕ → ℕ → ℕ → List Cell
 span c p s k from = take (min (used p k - from) 32) (drop (before p k + from) (cells_of c p s))
 
 module _ (c p : List ℕ) (s k from way : ℕ) (here : k < s) where
-  pub length-span : length (span c p s k from) ≡ min (used p k - from) 32
-  length-span =
+  pub length_span : length (span c p s k from) ≡ min (used p k - from) 32
+  length_span =
       let b = before_within p s k here in
       let t = length_text c p s in
       let d = length-drop (before p k + from) (cells_of c p s) in
       length-take-le (min (used p k - from) 32) (drop (before p k + from) (cells_of c p s)) (omega arith)
 
-  span-at : (i : ℕ) → i < min (used p k - from) 32 → get_or (span c p s k from) i no_cell ≡ get_or (cells_of c p s) (before p k + (from + i)) no_cell
-  span-at i h =
+  span_at : (i : ℕ) → i < min (used p k - from) 32 → get_or (span c p s k from) i no_cell ≡ get_or (cells_of c p s) (before p k + (from + i)) no_cell
+  span_at i h =
       let t = get_or-take (min (used p k - from) 32) (drop (before p k + from) (cells_of c p s)) i no_cell h in
       let d = get_or-drop (before p k + from) (cells_of c p s) i no_cell in
       let e : before p k + from + i ≡ before p k + (from + i) = omega arith in
@@ -60,35 +60,35 @@ module _ (c p : List ℕ) (s k from way : ℕ) (here : k < s) where
 
   pub span_none : (j : ℕ) → j ≡ min (used p k - from) 32 → 0 ≡ seen_bits way (drop j (span c p s k from))
   unfolding seen_bits
-  span_none j e = let l = length-span in let d = drop_all j (span c p s k from) (omega arith) in rw d refl
+  span_none j e = let l = length_span in let d = drop_all j (span c p s k from) (omega arith) in rw d refl
 
   pub span_more : (j b r : ℕ) (x : Cell) → x ≡ get_or (cells_of c p s) (before p k + (from + (j - 1))) no_cell → 0 < j → j ≤ min (used p k - from) 32
       → b ≡ seen_bits way (drop j (span c p s k from)) → r ≡ pick (seen way x) 1 0 → 2 * b + r ≡ seen_bits way (drop (j - 1) (span c p s k from))
   unfolding seen_bits
   span_more j b r x is some within f g =
-      let l = length-span in
+      let l = length_span in
       let d = drop_more (span c p s k from) (j - 1) no_cell (omega arith) in
-      let a = span-at (j - 1) (omega arith) in
+      let a = span_at (j - 1) (omega arith) in
       let e : j - 1 + 1 ≡ j = omega arith in
       let y : drop (j - 1) (span c p s k from) ≡ x ∷ drop j (span c p s k from) = cc in
       rw y (omega arith)
 
   pub span_small : (j b : ℕ) → 0 < j → b ≡ seen_bits way (drop j (span c p s k from)) → b < 2147483648
   span_small j b some f =
-      let l = length-span in
+      let l = length_span in
       let d = length-drop j (span c p s k from) in
       let m = seen_bits_small way (drop j (span c p s k from)) 31 (omega arith) in
       omega arith
 
-  pub span-bit : (b j : ℕ) → b ≡ seen_bits way (drop j (span c p s k from)) → j ≡ 0 → (i : ℕ) → i < 32
+  pub span_bit : (b j : ℕ) → b ≡ seen_bits way (drop j (span c p s k from)) → j ≡ 0 → (i : ℕ) → i < 32
       → b / 2 ^ i % 2 ≡ pick (ltb (from + i) (used p k) && seen way (get_or (cells_of c p s) (before p k + (from + i)) no_cell)) 1 0
-  span-bit b j f z i h =
-      let l = length-span in
+  span_bit b j f z i h =
+      let l = length_span in
       let g : b ≡ seen_bits way (span c p s k from) = rw z at f in
       elim (cases_lt (from + i) (used p k)) [
         | inl w ↦
             let n = bit_in way (span c p s k from) i (omega arith) in
-            let a = span-at i (omega arith) in
+            let a = span_at i (omega arith) in
             rw (g, lt-ltb (from + i) (used p k) w) (n ∙ rw a refl)
         | inr w ↦ rw (g, le-ltb (from + i) (used p k) w) (bit_out way (span c p s k from) i (omega arith))
       ]

@@ -32,11 +32,11 @@ module _ (c p : List ℕ) (s way k j : ℕ) (x : Cell) (here : k < s) (within : 
       let v = view_more way x (drop (before p k + (j + 1)) (cells_of c p s)) in
       cc
 
-  pub left-seen : true ≡ seen way x → left c p s way k j ≡ x ∷ left c p s way k (j + 1)
-  left-seen e = step ∙ rw (sym e)
+  pub left_seen : true ≡ seen way x → left c p s way k j ≡ x ∷ left c p s way k (j + 1)
+  left_seen e = step ∙ rw (sym e)
 
-  pub left-unseen : false ≡ seen way x → left c p s way k j ≡ left c p s way k (j + 1)
-  left-unseen e = step ∙ rw (sym e)
+  pub left_unseen : false ≡ seen way x → left c p s way k j ≡ left c p s way k (j + 1)
+  left_unseen e = step ∙ rw (sym e)
 
 -- from the end of a piece to the next
 pub left_next : (c p : List ℕ) (s way k j : ℕ) → j ≡ used p k → left c p s way (k + 1) 0 ≡ left c p s way k j

@@ -9,7 +9,7 @@ use Rattle.model.specs.Promise.{RowsFit}
 use Rattle.model.proofs.Rows.{rows_fit, rows_any, rows_step, step_inside}
 use Rattle.codec.specs.Bytes.{word_bytes, words_bytes, cells_bytes, rows_bytes, answer_bytes}
 use Rattle.codec.specs.Over.{over}
-use Rattle.codec.proofs.Writes.{over-more, length_cells_bytes, rows_bytes_fit, over_step, over_start}
+use Rattle.codec.proofs.Writes.{over_more, length_cells_bytes, rows_bytes_fit, over_step, over_start}
 
 pub record Written (out : List ℕ) (at : ℕ) (bs : List ℕ) (out' : List ℕ) (at' : ℕ) (bs' : List ℕ) : Type 0 where
   pub bytes : over out' at' bs' ≡ over out at bs
@@ -22,7 +22,7 @@ written_both f g = record { bytes = g.bytes ∙ f.bytes; place = g.place ∙ f.p
 -- cs has been written, and ds is what was to come after it
 pub written_more : (o : List ℕ) (a : ℕ) (b cs ds o' : List ℕ) (a' : ℕ) → b ≡ cs ++ ds → o' ≡ over o a cs → a' ≡ a + length cs → a' ≤ length o → Written o a b o' a' ds
 written_more o a b cs ds o' a' e f g l =
-    let m = over-more o a cs a' g l ds in
+    let m = over_more o a cs a' g l ds in
     let n = length-append cs ds in
     record { bytes = cc; place = rw e (omega arith) }
 
@@ -57,8 +57,8 @@ pub cells_both : {o : List ℕ} {a n : ℕ} {xs : List Cell} {o' : List ℕ} {a'
 cells_both f g = record { written = written_both f.written g.written; enough = g.enough }
 
 module _ (o : List ℕ) (a n : ℕ) (xs : List Cell) (o' : List ℕ) (a' m : ℕ) (ys : List Cell) (h : CellsWritten o a n xs o' a' m ys) where
-  pub cells-place : n ≤ length xs → a' + 16 * m ≡ a + 16 * n
-  cells-place l =
+  pub cells_place : n ≤ length xs → a' + 16 * m ≡ a + 16 * n
+  cells_place l =
       let e = h.enough in
       let f = h.written.place in
       let b = length_cells_bytes (take n xs) in
@@ -83,10 +83,10 @@ module _ (o : List ℕ) (a n : ℕ) (xs : List Cell) (o' : List ℕ) (a' m : ℕ
         enough = omega arith;
       }
 
-  pub cells-done : m ≡ 0 → n ≤ length xs → (o' ≡ over o a (cells_bytes (take n xs))) × (a' ≡ a + 16 * n)
-  cells-done z l =
+  pub cells_done : m ≡ 0 → n ≤ length xs → (o' ≡ over o a (cells_bytes (take n xs))) × (a' ≡ a + 16 * n)
+  cells_done z l =
       let d = written_done (cells_bytes (take m ys)) h.written (rw z cells_bytes_none) in
-      let p = cells-place l in
+      let p = cells_place l in
       (d.0, omega arith)
 
 -- the same of the first n rows of xs, when the first m of ys are still to be written
@@ -108,16 +108,16 @@ length_word n = refl
 -- one row further, of m rows; l are left after it
 module _ (w : ℕ) (wide : 0 < w) (o : List ℕ) (a n : ℕ) (xs : List Cell) (o' : List ℕ) (a' m : ℕ) (ys : List Cell) (h : RowsWritten w o a n xs o' a' m ys)
     (l : ℕ) (e : m ≡ suc l) where
-  pub rows-some : 0 < length ys
-  rows-some = let t = h.enough in (rows_any w ys wide).0 (omega arith)
+  pub rows_some : 0 < length ys
+  rows_some = let t = h.enough in (rows_any w ys wide).0 (omega arith)
 
   pub row_inside : (cut w ys).long ≤ length ys
   row_inside = let s = step_inside w ys in omega arith
 
-  row-bytes : rows_bytes (take m (rows w ys)) ≡ word_bytes (cut w ys).long ++ (cells_bytes (take (cut w ys).long ys) ++ rows_bytes (take l (rows w (drop (step w ys) ys))))
+  row_bytes : rows_bytes (take m (rows w ys)) ≡ word_bytes (cut w ys).long ++ (cells_bytes (take (cut w ys).long ys) ++ rows_bytes (take l (rows w (drop (step w ys) ys))))
   unfolding rows_bytes
-  row-bytes =
-      let s = rows_step w ys wide rows-some in
+  row_bytes =
+      let s = rows_step w ys wide rows_some in
       let k = length-take-le (cut w ys).long ys row_inside in
       rw (s, e, k) refl
 
@@ -125,7 +125,7 @@ module _ (w : ℕ) (wide : 0 < w) (o : List ℕ) (a n : ℕ) (xs : List Cell) (o
   row_room small =
       let p = h.written.place in
       let r = rows_room w n xs wide small in
-      let b = ap length row-bytes in
+      let b = ap length row_bytes in
       let b1 = length-append (word_bytes (cut w ys).long) (cells_bytes (take (cut w ys).long ys) ++ rows_bytes (take l (rows w (drop (step w ys) ys)))) in
       let b2 = length-append (cells_bytes (take (cut w ys).long ys)) (rows_bytes (take l (rows w (drop (step w ys) ys)))) in
       let b3 = length_word (cut w ys).long in
@@ -140,11 +140,11 @@ module _ (w : ℕ) (wide : 0 < w) (o : List ℕ) (a n : ℕ) (xs : List Cell) (o
       let b3 = length_word long in
       let b4 = length_cells_bytes (take long ys) in
       let b5 = length-take-le long ys (let i = row_inside in omega arith) in
-      let s = ap length (rows_step w ys wide rows-some) in
+      let s = ap length (rows_step w ys wide rows_some) in
       let t = h.enough in
       let tail : List ℕ = rows_bytes (take l (rows w zs)) in
       let first : Written o' a' (rows_bytes (take m (rows w ys))) o₁ a₁ (cells_bytes (take long ys) ++ tail) =
-      written_more o' a' (rows_bytes (take m (rows w ys))) (word_bytes long) (cells_bytes (take long ys) ++ tail) o₁ a₁ (rw (f, g) row-bytes) w1 (omega arith) l1
+      written_more o' a' (rows_bytes (take m (rows w ys))) (word_bytes long) (cells_bytes (take long ys) ++ tail) o₁ a₁ (rw (f, g) row_bytes) w1 (omega arith) l1
       in
       let second : Written o₁ a₁ (cells_bytes (take long ys) ++ tail) o₂ a₂ tail =
       written_more o₁ a₁ (cells_bytes (take long ys) ++ tail) (cells_bytes (take long ys)) tail o₂ a₂ refl w2 (omega arith) l2

@@ -63,26 +63,26 @@ nothing out = sym (append-nil out)
 
 -- what stands between two letters
 module _ (cs : List Change) (x y : Cell) where
-  pub between-end : x.letter ≡ 10 → closed x.put_in x.struck ++ (codes "</p><p>" ++ opened cs y) ≡ between cs x y
-  between-end e = sym (pick_true (eqb x.letter 10) _ _ (eq-eqb x.letter 10 e))
+  pub between_end : x.letter ≡ 10 → closed x.put_in x.struck ++ (codes "</p><p>" ++ opened cs y) ≡ between cs x y
+  between_end e = sym (pick_true (eqb x.letter 10) _ _ (eq-eqb x.letter 10 e))
 
   module _ (h : x.letter ≡ 10 → ⊥) where
-    between-same : between cs x y ≡ pick (alike x y) [] (closed x.put_in x.struck ++ opened cs y)
-    between-same = pick_false (eqb x.letter 10) _ _ (ne_eqb x.letter 10 h)
+    between_same : between cs x y ≡ pick (alike x y) [] (closed x.put_in x.struck ++ opened cs y)
+    between_same = pick_false (eqb x.letter 10) _ _ (ne_eqb x.letter 10 h)
 
     pub between_none : (out : List ℕ) → alike x y ≡ true → out ≡ out ++ between cs x y
-    between_none out e = nothing out ∙ ap (λ ls. out ++ ls) (sym (between-same ∙ pick_true (alike x y) _ _ e))
+    between_none out e = nothing out ∙ ap (λ ls. out ++ ls) (sym (between_same ∙ pick_true (alike x y) _ _ e))
 
-    pub between-new : alike x y ≡ false → closed x.put_in x.struck ++ opened cs y ≡ between cs x y
-    between-new e = sym (between-same ∙ pick_false (alike x y) _ _ e)
+    pub between_new : alike x y ≡ false → closed x.put_in x.struck ++ opened cs y ≡ between cs x y
+    between_new e = sym (between_same ∙ pick_false (alike x y) _ _ e)
 
 -- the author of the change that a mark names
 module _ (cs : List code_change.Change) (m : ℕ) (d : code_change.Change) where
-  pub author-there : m - 1 < length cs → (get_or cs (m - 1) d).author ≡ author_by (map change_of cs) m
-  author-there h = sym (ap (λ (c : Change). c.author) (get_or-map change_of cs (m - 1) d (record { author = 0; became = 0 }) h))
+  pub author_there : m - 1 < length cs → (get_or cs (m - 1) d).author ≡ author_by (map change_of cs) m
+  author_there h = sym (ap (λ (c : Change). c.author) (get_or-map change_of cs (m - 1) d (record { author = 0; became = 0 }) h))
 
-  pub author-past : length cs ≤ m - 1 → 0 ≡ author_by (map change_of cs) m
-  author-past h =
+  pub author_past : length cs ≤ m - 1 → 0 ≡ author_by (map change_of cs) m
+  author_past h =
       let l : length (map change_of cs) ≤ m - 1 = omega (arith, length-map cs change_of) in
       sym (ap (λ (c : Change). c.author) (get_or_past (map change_of cs) (m - 1) (record { author = 0; became = 0 }) l))
 

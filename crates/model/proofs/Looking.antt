@@ -4,7 +4,7 @@ use Rattle.std.proofs.lemmas.Bool.{eqb-true, eq-eqb, ne_eqb}
 use Rattle.model.specs.Paper.{pick, Cell, accept, reject, seen, view, letters}
 use Rattle.model.specs.Promise.{decided, all_decided, AsIf}
 use Rattle.model.proofs.Picks.{pick_true, pick_false}
-use Rattle.model.proofs.Marks.{Marks, marks-decided, below_marks}
+use Rattle.model.proofs.Marks.{Marks, marks_decided, below_marks}
 
 -- the letters that are seen in a way to look
 abbrev pub seen_letters : ℕ → List Cell → List ℕ
@@ -75,7 +75,7 @@ all_seen : (a : Bool) (xs : List Cell) (n : ℕ) → Marks (λ m. m ≤ n) xs �
 unfolding all_decided
 all_seen a xs zero h = unmarked a xs h
 all_seen a xs (suc n) h =
-    all_seen a (decided a xs n) n (marks-decided (λ m. m ≤ suc n) (λ m. m ≤ n) n (omega arith) (λ m ne k. omega arith) a xs h) ∙ decided_seen a xs n
+    all_seen a (decided a xs n) n (marks_decided (λ m. m ≤ suc n) (λ m. m ≤ n) n (omega arith) (λ m ne k. omega arith) a xs h) ∙ decided_seen a xs n
 
 pub as_if : AsIf
 unfolding AsIf

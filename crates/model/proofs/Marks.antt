@@ -12,20 +12,20 @@ Marks M [] = Unit {0}
 Marks M (x ∷ xs) = (M x.put_in × M x.struck) × Marks M xs
 
 module _ (M : ℕ → Type 0) where
-  pub marks-take : (i : ℕ) (xs : List Cell) → Marks M xs → Marks M (take i xs)
-  marks-take zero xs h = tt
-  marks-take (suc i) [] h = tt
-  marks-take (suc i) (x ∷ xs) h = (h.0, marks-take i xs h.1)
+  pub marks_take : (i : ℕ) (xs : List Cell) → Marks M xs → Marks M (take i xs)
+  marks_take zero xs h = tt
+  marks_take (suc i) [] h = tt
+  marks_take (suc i) (x ∷ xs) h = (h.0, marks_take i xs h.1)
 
-  pub marks-drop : (i : ℕ) (xs : List Cell) → Marks M xs → Marks M (drop i xs)
-  marks-drop zero xs h = h
-  marks-drop (suc i) [] h = tt
-  marks-drop (suc i) (x ∷ xs) h = marks-drop i xs h.1
+  pub marks_drop : (i : ℕ) (xs : List Cell) → Marks M xs → Marks M (drop i xs)
+  marks_drop zero xs h = h
+  marks_drop (suc i) [] h = tt
+  marks_drop (suc i) (x ∷ xs) h = marks_drop i xs h.1
 
   -- a cell y that stays if the test fails
-  pub marks-pick : (t : Bool) (y : Cell) (ys : List Cell) → (t ≡ false → M y.put_in × M y.struck) → Marks M ys → Marks M (pick t ys (y ∷ ys))
-  marks-pick true y ys h k = k
-  marks-pick false y ys h k = (h refl, k)
+  pub marks_pick : (t : Bool) (y : Cell) (ys : List Cell) → (t ≡ false → M y.put_in × M y.struck) → Marks M ys → Marks M (pick t ys (y ∷ ys))
+  marks_pick true y ys h k = k
+  marks_pick false y ys h k = (h refl, k)
 
 pub marks_map : (M N : ℕ → Type 0) → ((m : ℕ) → M m → N m) → (xs : List Cell) → Marks M xs → Marks N xs
 marks_map M N f [] h = tt
@@ -37,21 +37,21 @@ marks_any (x ∷ xs) = ((tt, tt), marks_any xs)
 
 -- after change number c is decided: no mark, or the marks but for those of c
 module _ (M N : ℕ → Type 0) (c : ℕ) (none : N 0) (other : (m : ℕ) → m ≢ suc c → M m → N m) where
-  mark-cleared : (m : ℕ) → M m → N (pick (eqb m (suc c)) 0 m)
-  mark-cleared m h = go (eqb m (suc c)) refl
+  mark_cleared : (m : ℕ) → M m → N (pick (eqb m (suc c)) 0 m)
+  mark_cleared m h = go (eqb m (suc c)) refl
     where
       go : (t : Bool) → eqb m (suc c) ≡ t → N (pick t 0 m)
       go true e = none
       go false e = other m (eqb-false m (suc c) e) h
 
-  pub marks-decided : (a : Bool) (xs : List Cell) → Marks M xs → Marks N (decided a xs c)
+  pub marks_decided : (a : Bool) (xs : List Cell) → Marks M xs → Marks N (decided a xs c)
   unfolding decided accept reject
-  marks-decided true [] h = tt
-  marks-decided false [] h = tt
-  marks-decided true (x ∷ xs) h =
-      marks-pick N _ _ (accept xs c) (λ e. (mark-cleared x.put_in h.0.0, other x.struck (eqb-false x.struck (suc c) e) h.0.1)) (marks-decided true xs h.1)
-  marks-decided false (x ∷ xs) h =
-      marks-pick N _ _ (reject xs c) (λ e. (other x.put_in (eqb-false x.put_in (suc c) e) h.0.0, mark-cleared x.struck h.0.1)) (marks-decided false xs h.1)
+  marks_decided true [] h = tt
+  marks_decided false [] h = tt
+  marks_decided true (x ∷ xs) h =
+      marks_pick N _ _ (accept xs c) (λ e. (mark_cleared x.put_in h.0.0, other x.struck (eqb-false x.struck (suc c) e) h.0.1)) (marks_decided true xs h.1)
+  marks_decided false (x ∷ xs) h =
+      marks_pick N _ _ (reject xs c) (λ e. (other x.put_in (eqb-false x.put_in (suc c) e) h.0.0, mark_cleared x.struck h.0.1)) (marks_decided false xs h.1)
 
 -- every mark is of one of the first n changes
 pub below_marks : (xs : List Cell) (n : ℕ) → below xs n ≡ true → Marks (λ m. m ≤ n) xs
@@ -78,4 +78,4 @@ untouched (x ∷ xs) c h =
 pub all_marks_gone : AllMarksGone
 unfolding AllMarksGone
 all_marks_gone a xs c =
-    untouched _ c (marks-decided (λ m. Unit {0}) (λ m. eqb m (suc c) ≡ false) c (ne_eqb 0 (suc c) (omega arith)) (λ m ne h. ne_eqb m (suc c) ne) a xs (marks_any xs))
+    untouched _ c (marks_decided (λ m. Unit {0}) (λ m. eqb m (suc c) ≡ false) c (ne_eqb 0 (suc c) (omega arith)) (λ m ne h. ne_eqb m (suc c) ne) a xs (marks_any xs))

@@ -25,71 +25,71 @@ module _ (P : ℕ → Type 0) where
   abbrev Of : Cell → Type 0
   Of x = P x.letter
 
-  new-cells-all : (ls : List ℕ) (s c : ℕ) → AllByRecursion P ls → AllByRecursion Of (new_cells ls s c)
+  new_cells_all : (ls : List ℕ) (s c : ℕ) → AllByRecursion P ls → AllByRecursion Of (new_cells ls s c)
   unfolding new_cells
-  new-cells-all [] s c h = tt
-  new-cells-all (l ∷ ls) s c h = (h.0, new-cells-all ls s c h.1)
+  new_cells_all [] s c h = tt
+  new_cells_all (l ∷ ls) s c h = (h.0, new_cells_all ls s c h.1)
 
-  strike-all : (xs : List Cell) (n : ℕ) (cs : List Change) (a c : ℕ) → AllByRecursion Of xs → AllByRecursion Of (strike xs n cs a c)
+  strike_all : (xs : List Cell) (n : ℕ) (cs : List Change) (a c : ℕ) → AllByRecursion Of xs → AllByRecursion Of (strike xs n cs a c)
   unfolding strike
-  strike-all [] n cs a c h = tt
-  strike-all (x ∷ xs) zero cs a c h = h
-  strike-all (x ∷ xs) (suc n) cs a c h = all_or_less Of _ _ _ h.0 (strike-all xs n cs a c h.1)
+  strike_all [] n cs a c h = tt
+  strike_all (x ∷ xs) zero cs a c h = h
+  strike_all (x ∷ xs) (suc n) cs a c h = all_or_less Of _ _ _ h.0 (strike_all xs n cs a c h.1)
 
-  accept-all : (xs : List Cell) (c : ℕ) → AllByRecursion Of xs → AllByRecursion Of (accept xs c)
+  accept_all : (xs : List Cell) (c : ℕ) → AllByRecursion Of xs → AllByRecursion Of (accept xs c)
   unfolding accept
-  accept-all [] c h = tt
-  accept-all (x ∷ xs) c h = all_or_less Of _ _ _ h.0 (accept-all xs c h.1)
+  accept_all [] c h = tt
+  accept_all (x ∷ xs) c h = all_or_less Of _ _ _ h.0 (accept_all xs c h.1)
 
-  reject-all : (xs : List Cell) (c : ℕ) → AllByRecursion Of xs → AllByRecursion Of (reject xs c)
+  reject_all : (xs : List Cell) (c : ℕ) → AllByRecursion Of xs → AllByRecursion Of (reject xs c)
   unfolding reject
-  reject-all [] c h = tt
-  reject-all (x ∷ xs) c h = all_or_less Of _ _ _ h.0 (reject-all xs c h.1)
+  reject_all [] c h = tt
+  reject_all (x ∷ xs) c h = all_or_less Of _ _ _ h.0 (reject_all xs c h.1)
 
-  styled-all : (xs : List Cell) (n s : ℕ) → AllByRecursion Of xs → AllByRecursion Of (styled xs n s)
+  styled_all : (xs : List Cell) (n s : ℕ) → AllByRecursion Of xs → AllByRecursion Of (styled xs n s)
   unfolding styled
-  styled-all [] n s h = tt
-  styled-all (x ∷ xs) zero s h = h
-  styled-all (x ∷ xs) (suc n) s h = (h.0, styled-all xs n s h.1)
+  styled_all [] n s h = tt
+  styled_all (x ∷ xs) zero s h = h
+  styled_all (x ∷ xs) (suc n) s h = (h.0, styled_all xs n s h.1)
 
-  rewritten-all : (p : Paper) (c : Call) → ((a i s : ℕ) (ls : List ℕ) → c ≡ put a i s ls → AllByRecursion P ls) → AllByRecursion Of p.cells → AllByRecursion Of (rewritten p c).cells
+  rewritten_all : (p : Paper) (c : Call) → ((a i s : ℕ) (ls : List ℕ) → c ≡ put a i s ls → AllByRecursion P ls) → AllByRecursion Of p.cells → AllByRecursion Of (rewritten p c).cells
   unfolding rewritten
-  rewritten-all p (put a i s ls) f h =
-      All-append Of _ _ (All-take Of i _ h) (All-append Of _ _ (new-cells-all ls s _ (f a i s ls refl)) (All-drop Of i _ h))
-  rewritten-all p (strikes a i n) f h = All-append Of _ _ (All-take Of i _ h) (strike-all _ n _ a _ (All-drop Of i _ h))
-  rewritten-all p (accepts c) f h = accept-all _ c h
-  rewritten-all p (rejects c) f h = reject-all _ c h
-  rewritten-all p (styles i n s) f h = All-append Of _ _ (All-take Of i _ h) (styled-all _ n s (All-drop Of i _ h))
-  rewritten-all p undo f h = h
-  rewritten-all p redo f h = h
-  rewritten-all p (show k w r n) f h = h
-  rewritten-all p (find k i ls) f h = h
-  rewritten-all p (count k) f h = h
-  rewritten-all p (change c) f h = h
-  rewritten-all p (save i n) f h = h
+  rewritten_all p (put a i s ls) f h =
+      All-append Of _ _ (All-take Of i _ h) (All-append Of _ _ (new_cells_all ls s _ (f a i s ls refl)) (All-drop Of i _ h))
+  rewritten_all p (strikes a i n) f h = All-append Of _ _ (All-take Of i _ h) (strike_all _ n _ a _ (All-drop Of i _ h))
+  rewritten_all p (accepts c) f h = accept_all _ c h
+  rewritten_all p (rejects c) f h = reject_all _ c h
+  rewritten_all p (styles i n s) f h = All-append Of _ _ (All-take Of i _ h) (styled_all _ n s (All-drop Of i _ h))
+  rewritten_all p undo f h = h
+  rewritten_all p redo f h = h
+  rewritten_all p (show k w r n) f h = h
+  rewritten_all p (find k i ls) f h = h
+  rewritten_all p (count k) f h = h
+  rewritten_all p (change c) f h = h
+  rewritten_all p (save i n) f h = h
 
-  abbrev Of-before : Before → Type 0
-  Of-before b = AllByRecursion Of b.paper.cells
+  abbrev OfBefore : Before → Type 0
+  OfBefore b = AllByRecursion Of b.paper.cells
 
-  record Of-desk (d : Desk) : Type 0 where
+  record OfDesk (d : Desk) : Type 0 where
     now : AllByRecursion Of d.now.cells
-    past : AllByRecursion Of-before d.past
-    future : AllByRecursion Of-before d.future
+    past : AllByRecursion OfBefore d.past
+    future : AllByRecursion OfBefore d.future
 
-  undone-all : (d : Desk) (bs : List Before) → Of-desk d → AllByRecursion Of-before bs → Of-desk (undone d bs)
+  undone_all : (d : Desk) (bs : List Before) → OfDesk d → AllByRecursion OfBefore bs → OfDesk (undone d bs)
   unfolding undone
-  undone-all d [] k h = k
-  undone-all d (b ∷ bs) k h = record { now = h.0; past = h.1; future = (k.now, k.future) }
+  undone_all d [] k h = k
+  undone_all d (b ∷ bs) k h = record { now = h.0; past = h.1; future = (k.now, k.future) }
 
-  redone-all : (d : Desk) (bs : List Before) → Of-desk d → AllByRecursion Of-before bs → Of-desk (redone d bs)
+  redone_all : (d : Desk) (bs : List Before) → OfDesk d → AllByRecursion OfBefore bs → OfDesk (redone d bs)
   unfolding redone
-  redone-all d [] k h = k
-  redone-all d (b ∷ bs) k h = record { now = h.0; past = (k.now, k.past); future = h.1 }
+  redone_all d [] k h = k
+  redone_all d (b ∷ bs) k h = record { now = h.0; past = (k.now, k.past); future = h.1 }
 
-  moved_all : (l : Limits) (d : Desk) (c : Call) → Of-desk d → Of-desk (moved l d c)
+  moved_all : (l : Limits) (d : Desk) (c : Call) → OfDesk d → OfDesk (moved l d c)
   unfolding moved
-  moved_all l d undo k = undone-all d d.past k k.past
-  moved_all l d redo k = redone-all d d.future k k.future
+  moved_all l d undo k = undone_all d d.past k k.past
+  moved_all l d redo k = redone_all d d.future k k.future
   moved_all l d (put a i s ls) k = k
   moved_all l d (strikes a i n) k = k
   moved_all l d (accepts c) k = k
@@ -101,33 +101,33 @@ module _ (P : ℕ → Type 0) where
   moved_all l d (change c) k = k
   moved_all l d (save i n) k = k
 
-  after-all : (l : Limits) (d : Desk) (c : Call) → ((a i s : ℕ) (ls : List ℕ) → c ≡ put a i s ls → turned l d c ≡ 0 → AllByRecursion P ls) → Of-desk d → Of-desk (after l d c)
-  after-all l d c f k =
-      by_test (eqb (turned l d c) 0) (changed l d c) d Of-desk
+  after_all : (l : Limits) (d : Desk) (c : Call) → ((a i s : ℕ) (ls : List ℕ) → c ≡ put a i s ls → turned l d c ≡ 0 → AllByRecursion P ls) → OfDesk d → OfDesk (after l d c)
+  after_all l d c f k =
+      by_test (eqb (turned l d c) 0) (changed l d c) d OfDesk
       (λ t.
-      by_test (writes c) _ (moved l d c) Of-desk
+      by_test (writes c) _ (moved l d c) OfDesk
       (λ _.
       record {
-        now = rewritten-all d.now c (λ a i s ls e. f a i s ls e (eqb-true _ _ t)) k.now;
-        past = remembered_all Of-before l.undos (record { paper = d.now; much = how_much d.now c } ∷ d.past) (k.now, k.past);
+        now = rewritten_all d.now c (λ a i s ls e. f a i s ls e (eqb-true _ _ t)) k.now;
+        past = remembered_all OfBefore l.undos (record { paper = d.now; much = how_much d.now c } ∷ d.past) (k.now, k.past);
         future = tt;
       })
       (λ _. moved_all l d c k))
       (λ _. k)
 
-  ran-all : (l : Limits) (d : Desk) (cs : List Call) →
+  ran_all : (l : Limits) (d : Desk) (cs : List Call) →
       ((before later : List Call) (a i s : ℕ) (ls : List ℕ) → cs ≡ before ++ (put a i s ls ∷ later) → turned l (ran l d before) (put a i s ls) ≡ 0 → AllByRecursion P ls) →
-      Of-desk d → Of-desk (ran l d cs)
+      OfDesk d → OfDesk (ran l d cs)
   unfolding ran
-  ran-all l d [] f k = k
-  ran-all l d (c ∷ cs) f k =
-      ran-all l (after l d c) cs (λ before later a i s ls e t. f (c ∷ before) later a i s ls (ap (λ (r : List Call). c ∷ r) e) t)
-      (after-all l d c (λ a i s ls e t. f [] cs a i s ls (ap (λ (r : Call). r ∷ cs) e) (subst (λ (r : Call). turned l d r ≡ 0) e t)) k)
+  ran_all l d [] f k = k
+  ran_all l d (c ∷ cs) f k =
+      ran_all l (after l d c) cs (λ before later a i s ls e t. f (c ∷ before) later a i s ls (ap (λ (r : List Call). c ∷ r) e) t)
+      (after_all l d c (λ a i s ls e t. f [] cs a i s ls (ap (λ (r : Call). r ∷ cs) e) (subst (λ (r : Call). turned l d r ≡ 0) e t)) k)
 
 pub nothing_from_nowhere : NothingFromNowhere
 unfolding NothingFromNowhere
 nothing_from_nowhere l cs =
-    (ran-all (PutBy l cs) l new_desk cs
+    (ran_all (PutBy l cs) l new_desk cs
     (λ before later a i s ls e t.
     All-weaker (ContainsAt ls) (PutBy l cs)
     (λ x h. record { before = before; author = a; place = i; style = s; typed = ls; later = later; calls = e; done = t; has = h })

@@ -6,7 +6,7 @@ use Rattle.model.specs.Paper.{pick, Cell, Change, Paper, new_cells, strike, reje
 use Rattle.model.specs.Calls.{rejects, with_became, rewritten}
 use Rattle.model.specs.Faults.{none_by, with_rejected, StrikeThenReject, PutThenReject}
 use Rattle.model.proofs.Picks.{pick_true, pick_false}
-use Rattle.model.proofs.Marks.{Marks, marks-take, marks-drop, below_marks}
+use Rattle.model.proofs.Marks.{Marks, marks_take, marks_drop, below_marks}
 
 abbrev unmarked_by : Cell → ℕ → Cell
 unmarked_by x c = record { letter = x.letter; style = x.style; put_in = x.put_in; struck = pick (eqb x.struck (suc c)) 0 x.struck }
@@ -64,7 +64,7 @@ new_reject (l ∷ ls) s c xs = pick_true _ _ _ (eq-eqb (suc c) (suc c) refl) ∙
 rejected_from : (i : ℕ) (xs zs : List Cell) (c : ℕ) → Marks (λ m. m ≤ c) xs → reject zs c ≡ drop i xs → reject (take i xs ++ zs) c ≡ xs
 rejected_from i xs zs c h e =
     let a = reject_append (take i xs) zs c in
-    let b = reject_unmarked (take i xs) c (marks-take (λ m. m ≤ c) i xs h) in
+    let b = reject_unmarked (take i xs) c (marks_take (λ m. m ≤ c) i xs h) in
     let t = take-append-drop i xs in
     cc
 
@@ -85,11 +85,11 @@ unfolding StrikeThenReject rewritten
 strike_then_reject p a i n h o =
     let c : ℕ = length p.changes in
     let m = below_marks p.cells c h in
-    rejected p a _ (rejected_from i p.cells _ c m (strike_reject (drop i p.cells) n p.changes a c (marks-drop (λ m. m ≤ c) i p.cells m) o))
+    rejected p a _ (rejected_from i p.cells _ c m (strike_reject (drop i p.cells) n p.changes a c (marks_drop (λ m. m ≤ c) i p.cells m) o))
 
 pub put_then_reject : PutThenReject
 unfolding PutThenReject rewritten
 put_then_reject p a i s ls h =
     let c : ℕ = length p.changes in
     let m = below_marks p.cells c h in
-    rejected p a _ (rejected_from i p.cells _ c m (new_reject ls s c (drop i p.cells) ∙ reject_unmarked (drop i p.cells) c (marks-drop (λ m. m ≤ c) i p.cells m)))
+    rejected p a _ (rejected_from i p.cells _ c m (new_reject ls s c (drop i p.cells) ∙ reject_unmarked (drop i p.cells) c (marks_drop (λ m. m ≤ c) i p.cells m)))

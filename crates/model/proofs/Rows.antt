@@ -70,7 +70,7 @@ pub cut_cases : (w : ℕ) (xs : List Cell) (P : Cut → Type 0) →
     ((k : ℕ) → s < k → k ≤ w → (get_or (letters xs) k 0 ≡ 32 → ⊥) × (get_or (letters xs) k 0 ≡ 10 → ⊥)) → P (record { long = s; skips = 1 })) →
     P (cut w xs)
 unfolding cut_after EndAt SpaceAt LastSpace NoSpace
-cut_cases w xs P at-end all full at-space =
+cut_cases w xs P at_end all full at-space =
     by_test (eqb (first_end xs (suc w) 0) 0) _ _ P
     (λ t. by_test (leb (length xs) w) _ _ P (λ u. all (leb-true _ _ u)) (λ u. broken (eqb-true _ _ t) (leb-false _ _ u) (last_space xs (suc w) 0 0) (space_found xs (suc w) 0 0)))
     (λ t. ended (first_end xs (suc w) 0) refl (eqb-false _ _ t))
@@ -80,7 +80,7 @@ cut_cases w xs P at-end all full at-space =
     ended (suc s) e h =
         let r = end_found xs (suc w) 0 s e in
         let k : r.0 ≡ suc s - 1 = omega arith in
-        subst (λ (m : ℕ). P (record { long = m; skips = 1 })) k (at-end r.0 (omega arith) (omega arith) r.2.2)
+        subst (λ (m : ℕ). P (record { long = m; skips = 1 })) k (at_end r.0 (omega arith) (omega arith) r.2.2)
 
     broken : first_end xs (suc w) 0 ≡ 0 → w < length xs → (v : ℕ) → LastSpace xs (suc w) 0 0 v → P (cut_after w v)
     broken e h zero l = full h

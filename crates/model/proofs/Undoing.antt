@@ -54,28 +54,28 @@ back_forward l d b bs can₅ can₆ f g e =
 
 -- the desk after a call that writes: the paper, what can be undone, what can be done again
 module _ (l : Limits) (d : Desk) (c : Call) (w : writes c ≡ true) (e : turned l d c ≡ 0) where
-  wrote-now : (after l d c).now ≡ rewritten d.now c
-  wrote-now = ap (λ (v : Desk). v.now) (done l d c e ∙ pick_true (writes c) _ _ w)
+  wrote_now : (after l d c).now ≡ rewritten d.now c
+  wrote_now = ap (λ (v : Desk). v.now) (done l d c e ∙ pick_true (writes c) _ _ w)
 
-  wrote-past : (after l d c).past ≡ remembered l.undos (record { paper = d.now; much = how_much d.now c } ∷ d.past)
-  wrote-past = ap (λ (v : Desk). v.past) (done l d c e ∙ pick_true (writes c) _ _ w)
+  wrote_past : (after l d c).past ≡ remembered l.undos (record { paper = d.now; much = how_much d.now c } ∷ d.past)
+  wrote_past = ap (λ (v : Desk). v.past) (done l d c e ∙ pick_true (writes c) _ _ w)
 
-  wrote-future : (after l d c).future ≡ []
-  wrote-future = ap (λ (v : Desk). v.future) (done l d c e ∙ pick_true (writes c) _ _ w)
+  wrote_future : (after l d c).future ≡ []
+  wrote_future = ap (λ (v : Desk). v.future) (done l d c e ∙ pick_true (writes c) _ _ w)
 
 pub undone_redone : Undone
 unfolding Undone
 undone_redone l d c w f e h can₅ can₆ =
-    let past = wrote-past l d c w e in
+    let past = wrote_past l d c w e in
     let b : Before = record { paper = d.now; much = how_much d.now c } in
     let first = latest l.undos b d.past (subst (λ (v : List Before). 0 < length v) past h) in
-    back_forward l (after l d c) b _ can₅ can₆ (ap (fits l) (wrote-now l d c w e) ∙ fits_after l d c e) f (past ∙ first)
+    back_forward l (after l d c) b _ can₅ can₆ (ap (fits l) (wrote_now l d c w e) ∙ fits_after l d c e) f (past ∙ first)
 
 pub nothing_to_redo : NothingToRedo
 unfolding NothingToRedo call_number good_fields turned_by place
 nothing_to_redo l d c w e can =
     let b : Desk = after l d c in
-    let by : turned_by b redo ≡ 7 = pick_true _ _ _ (eq-eqb (length b.future) 0 (ap length (wrote-future l d c w e))) in
+    let by : turned_by b redo ≡ 7 = pick_true _ _ _ (eq-eqb (length b.future) 0 (ap length (wrote_future l d c w e))) in
     let t : turned l b redo ≡ 7 = pick_true _ _ _ (and_from _ _ can refl) ∙ (pick_false _ _ _ (ne_eqb (turned_by b redo) 0 (omega arith)) ∙ by) in
     ap (λ v. pick (eqb v 0) (told b redo) (refused v (place redo v))) t
 

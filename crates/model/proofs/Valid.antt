@@ -7,36 +7,36 @@ use Rattle.model.specs.Calls.{Call, put, strikes, accepts, rejects, styles, undo
 use Rattle.model.specs.Promise.{decided}
 use Rattle.model.specs.Valid.{open_mark, open_marks, ValidPapers}
 use Rattle.model.proofs.Picks.{pick_both}
-use Rattle.model.proofs.Marks.{Marks, marks-take, marks-drop, marks-pick, marks_map, marks-decided, marks_below}
+use Rattle.model.proofs.Marks.{Marks, marks_take, marks_drop, marks_pick, marks_map, marks_decided, marks_below}
 use Rattle.model.proofs.Undoing.{fits_after}
 
 -- what every act does to the marks
 module _ (M : ℕ → Type 0) where
-  marks-append : (xs ys : List Cell) → Marks M xs → Marks M ys → Marks M (xs ++ ys)
-  marks-append [] ys h k = k
-  marks-append (x ∷ xs) ys h k = (h.0, marks-append xs ys h.1 k)
+  marks_append : (xs ys : List Cell) → Marks M xs → Marks M ys → Marks M (xs ++ ys)
+  marks_append [] ys h k = k
+  marks_append (x ∷ xs) ys h k = (h.0, marks_append xs ys h.1 k)
 
   -- other cells from place i on
   marks_from : (i : ℕ) (xs zs : List Cell) → Marks M xs → Marks M zs → Marks M (take i xs ++ zs)
-  marks_from i xs zs h k = marks-append (take i xs) zs (marks-take M i xs h) k
+  marks_from i xs zs h k = marks_append (take i xs) zs (marks_take M i xs h) k
 
-  marks-new : (ls : List ℕ) (s c : ℕ) → M (suc c) → M 0 → Marks M (new_cells ls s c)
+  marks_new : (ls : List ℕ) (s c : ℕ) → M (suc c) → M 0 → Marks M (new_cells ls s c)
   unfolding new_cells
-  marks-new [] s c p z = tt
-  marks-new (l ∷ ls) s c p z = ((p, z), marks-new ls s c p z)
+  marks_new [] s c p z = tt
+  marks_new (l ∷ ls) s c p z = ((p, z), marks_new ls s c p z)
 
-  marks-strike : (xs : List Cell) (n : ℕ) (cs : List Change) (a c : ℕ) → M (suc c) → Marks M xs → Marks M (strike xs n cs a c)
+  marks_strike : (xs : List Cell) (n : ℕ) (cs : List Change) (a c : ℕ) → M (suc c) → Marks M xs → Marks M (strike xs n cs a c)
   unfolding strike
-  marks-strike [] n cs a c p h = tt
-  marks-strike (x ∷ xs) zero cs a c p h = h
-  marks-strike (x ∷ xs) (suc n) cs a c p h =
-      marks-pick M _ _ (strike xs n cs a c) (λ e. (h.0.0, pick_both M (eqb x.struck 0) _ _ p h.0.1)) (marks-strike xs n cs a c p h.1)
+  marks_strike [] n cs a c p h = tt
+  marks_strike (x ∷ xs) zero cs a c p h = h
+  marks_strike (x ∷ xs) (suc n) cs a c p h =
+      marks_pick M _ _ (strike xs n cs a c) (λ e. (h.0.0, pick_both M (eqb x.struck 0) _ _ p h.0.1)) (marks_strike xs n cs a c p h.1)
 
-  marks-styled : (xs : List Cell) (n s : ℕ) → Marks M xs → Marks M (styled xs n s)
+  marks_styled : (xs : List Cell) (n s : ℕ) → Marks M xs → Marks M (styled xs n s)
   unfolding styled
-  marks-styled [] n s h = tt
-  marks-styled (x ∷ xs) zero s h = h
-  marks-styled (x ∷ xs) (suc n) s h = (h.0, marks-styled xs n s h.1)
+  marks_styled [] n s h = tt
+  marks_styled (x ∷ xs) zero s h = h
+  marks_styled (x ∷ xs) (suc n) s h = (h.0, marks_styled xs n s h.1)
 
 -- the mark of an open change
 abbrev Open : List Change → ℕ → Type 0
@@ -81,14 +81,14 @@ unfolding rewritten decided
 still_open p (put a i s ls) h =
     let cs : List Change = p.changes ++ (record { author = a; became = 0 } ∷ []) in
     let k = marks_map (Open p.changes) (Open cs) (open_more p.changes _) p.cells h in
-    marks_from (Open cs) i p.cells _ k (marks-append (Open cs) _ _ (marks-new (Open cs) ls s (length p.changes) (open_last p.changes a) (open_none cs)) (marks-drop (Open cs) i p.cells k))
+    marks_from (Open cs) i p.cells _ k (marks_append (Open cs) _ _ (marks_new (Open cs) ls s (length p.changes) (open_last p.changes a) (open_none cs)) (marks_drop (Open cs) i p.cells k))
 still_open p (strikes a i n) h =
     let cs : List Change = p.changes ++ (record { author = a; became = 0 } ∷ []) in
     let k = marks_map (Open p.changes) (Open cs) (open_more p.changes _) p.cells h in
-    marks_from (Open cs) i p.cells _ k (marks-strike (Open cs) _ n p.changes a (length p.changes) (open_last p.changes a) (marks-drop (Open cs) i p.cells k))
-still_open p (accepts c) h = marks-decided (Open p.changes) _ c (open_none _) (open_other p.changes c _) true p.cells h
-still_open p (rejects c) h = marks-decided (Open p.changes) _ c (open_none _) (open_other p.changes c _) false p.cells h
-still_open p (styles i n s) h = marks_from (Open p.changes) i p.cells _ h (marks-styled (Open p.changes) _ n s (marks-drop (Open p.changes) i p.cells h))
+    marks_from (Open cs) i p.cells _ k (marks_strike (Open cs) _ n p.changes a (length p.changes) (open_last p.changes a) (marks_drop (Open cs) i p.cells k))
+still_open p (accepts c) h = marks_decided (Open p.changes) _ c (open_none _) (open_other p.changes c _) true p.cells h
+still_open p (rejects c) h = marks_decided (Open p.changes) _ c (open_none _) (open_other p.changes c _) false p.cells h
+still_open p (styles i n s) h = marks_from (Open p.changes) i p.cells _ h (marks_styled (Open p.changes) _ n s (marks_drop (Open p.changes) i p.cells h))
 still_open p undo h = h
 still_open p redo h = h
 still_open p (show k w r n) h = h

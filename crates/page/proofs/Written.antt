@@ -8,15 +8,15 @@ use Rattle.page.specs.Page.{has_author, author_item, authors_from, change_row, c
 
 -- whether an author made a change, from change to change
 module _ (cs : List Change) (a i : ℕ) (d : Change) (h : i < length cs) where
-  has-at : has_author (drop i cs) a ≡ (eqb (get_or cs i d).author a || has_author (drop (i + 1) cs) a)
+  has_at : has_author (drop i cs) a ≡ (eqb (get_or cs i d).author a || has_author (drop (i + 1) cs) a)
   unfolding has_author
-  has-at = ap (λ ys. has_author ys a) (drop_more cs i d h)
+  has_at = ap (λ ys. has_author ys a) (drop_more cs i d h)
 
-  pub has-found : (get_or cs i d).author ≡ a → has_author (drop i cs) a ≡ true
-  has-found e = has-at ∙ ap (λ b. b || has_author (drop (i + 1) cs) a) (eq-eqb (get_or cs i d).author a e)
+  pub has_found : (get_or cs i d).author ≡ a → has_author (drop i cs) a ≡ true
+  has_found e = has_at ∙ ap (λ b. b || has_author (drop (i + 1) cs) a) (eq-eqb (get_or cs i d).author a e)
 
   pub has_more : ((get_or cs i d).author ≡ a → ⊥) → has_author (drop i cs) a ≡ has_author (drop (i + 1) cs) a
-  has_more e = has-at ∙ ap (λ b. b || has_author (drop (i + 1) cs) a) (ne_eqb (get_or cs i d).author a e)
+  has_more e = has_at ∙ ap (λ b. b || has_author (drop (i + 1) cs) a) (ne_eqb (get_or cs i d).author a e)
 
 pub has_none : (cs : List Change) (a i : ℕ) → length cs ≤ i → has_author (drop i cs) a ≡ false
 unfolding has_author
@@ -24,24 +24,24 @@ has_none cs a i h = ap (λ ys. has_author ys a) (drop_all i cs h)
 
 -- author after author; n is how many there can be
 module _ (out : List ℕ) (cs : List Change) (n a : ℕ) where
-  authors-at : a < n → authors_from (n - a) a cs ≡ pick (has_author cs a) (author_item a) [] ++ authors_from (n - (a + 1)) (a + 1) cs
+  authors_at : a < n → authors_from (n - a) a cs ≡ pick (has_author cs a) (author_item a) [] ++ authors_from (n - (a + 1)) (a + 1) cs
   unfolding authors_from
-  authors-at h =
+  authors_at h =
       let one : n - a ≡ suc (n - (a + 1)) = omega arith in
       let next : suc a ≡ a + 1 = omega arith in
       ap (λ m. authors_from m a cs) one ∙ ap (λ b. pick (has_author cs a) (author_item a) [] ++ authors_from (n - (a + 1)) b cs) next
 
-  pub authors-more : a < n → has_author cs a ≡ true → (out ++ author_item a) ++ authors_from (n - (a + 1)) (a + 1) cs ≡ out ++ authors_from (n - a) a cs
-  authors-more h e =
+  pub authors_more : a < n → has_author cs a ≡ true → (out ++ author_item a) ++ authors_from (n - (a + 1)) (a + 1) cs ≡ out ++ authors_from (n - a) a cs
+  authors_more h e =
       append_assoc out (author_item a) (authors_from (n - (a + 1)) (a + 1) cs)
-      ∙ ap (λ bs. out ++ bs) (ap (λ b. pick b (author_item a) [] ++ authors_from (n - (a + 1)) (a + 1) cs) (sym e) ∙ sym (authors-at h))
+      ∙ ap (λ bs. out ++ bs) (ap (λ b. pick b (author_item a) [] ++ authors_from (n - (a + 1)) (a + 1) cs) (sym e) ∙ sym (authors_at h))
 
-  pub authors-skip : a < n → has_author cs a ≡ false → out ++ authors_from (n - (a + 1)) (a + 1) cs ≡ out ++ authors_from (n - a) a cs
-  authors-skip h e = ap (λ bs. out ++ bs) (ap (λ b. pick b (author_item a) [] ++ authors_from (n - (a + 1)) (a + 1) cs) (sym e) ∙ sym (authors-at h))
+  pub authors_skip : a < n → has_author cs a ≡ false → out ++ authors_from (n - (a + 1)) (a + 1) cs ≡ out ++ authors_from (n - a) a cs
+  authors_skip h e = ap (λ bs. out ++ bs) (ap (λ b. pick b (author_item a) [] ++ authors_from (n - (a + 1)) (a + 1) cs) (sym e) ∙ sym (authors_at h))
 
-  pub authors-end : n ≤ a → out ++ authors_from (n - a) a cs ≡ out
+  pub authors_end : n ≤ a → out ++ authors_from (n - a) a cs ≡ out
   unfolding authors_from
-  authors-end h = let z : n - a ≡ 0 = omega arith in ap (λ m. out ++ authors_from m a cs) z ∙ append-nil out
+  authors_end h = let z : n - a ≡ 0 = omega arith in ap (λ m. out ++ authors_from m a cs) z ∙ append-nil out
 
 -- change after change
 pub changes_more : (out : List ℕ) (cs : List Change) (i : ℕ) (d : Change) → i < length cs → (out ++ change_row i (get_or cs i d)) ++ change_rows (i + 1) (drop (i + 1) cs) ≡ out ++ change_rows i (drop i cs)

@@ -4,7 +4,7 @@ use Rattle.std.proofs.lemmas.List.{append_assoc, length-append, length-take-le, 
 use Rattle.std.proofs.lemmas.Bool.{cases_order, cases_eq}
 use Rattle.model.specs.Paper.{Cell}
 use Rattle.slots.specs.Cells.{cells_at, Kept}
-use Rattle.slots.proofs.Words.{length_cells, kept-cells-below, kept-cells-above, kept-drop}
+use Rattle.slots.proofs.Words.{length_cells, kept_cells_below, kept_cells_above, kept_drop}
 use Rattle.std.specs.List.{AllByRecursion}
 use Rattle.std.proofs.ByRecursion.{All-append, All-take, All-drop}
 use Rattle.pieces.specs.Marks.{Has, Marks, Grown}
@@ -52,8 +52,8 @@ other_slot c d p s k j n o h l m ne le =
     elim (cases_order (slot p j) (slot p k)) [
       | inl e ↦ absurd (ne (o.apart j k m l e))
       | inr w ↦ elim w [
-        | inl b ↦ kept-cells-below c d (1024 * slot p k) 1024 h (1024 * slot p j) n (omega arith)
-        | inr a ↦ kept-cells-above c d (1024 * slot p k) 1024 h (1024 * slot p j) n (omega arith)
+        | inl b ↦ kept_cells_below c d (1024 * slot p k) 1024 h (1024 * slot p j) n (omega arith)
+        | inr a ↦ kept_cells_above c d (1024 * slot p k) 1024 h (1024 * slot p j) n (omega arith)
       ]
     ]
 
@@ -63,7 +63,7 @@ frame_cells c d p s k o l h =
     record {
       cells_long = h.long;
       words_long = refl;
-      cells_past = kept-drop c d (1024 * slot p k) 1024 h (4096 * s) (omega arith);
+      cells_past = kept_drop c d (1024 * slot p k) 1024 h (4096 * s) (omega arith);
       words_past = refl;
       spare = λ j a b. refl;
     }

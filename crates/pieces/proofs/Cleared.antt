@@ -22,34 +22,34 @@ counting_more n d l =
     cc
 
 module _ (p : List ℕ) (s : ℕ) (l : s ≤ 2048) (w : 10240 ≤ length p) where
-  pub cleared-order : (k : ℕ) → k < s → get_or (cleared_words p s) k 0 ≡ k
-  cleared-order k h =
+  pub cleared_order : (k : ℕ) → k < s → get_or (cleared_words p s) k 0 ≡ k
+  cleared_order k h =
       let n = length-range_with_len 0 s in
       get_or_append_left (range_with_len 0 s) (replicate (10240 - s) 0 ++ drop 10240 p) 0 k (omega arith) ∙ get_or-range_with_len 0 s k 0 h ∙ zero-add k
 
-  pub cleared-zero : (k : ℕ) → s ≤ k → k < 10240 → get_or (cleared_words p s) k 0 ≡ 0
-  cleared-zero k h i =
+  pub cleared_zero : (k : ℕ) → s ≤ k → k < 10240 → get_or (cleared_words p s) k 0 ≡ 0
+  cleared_zero k h i =
       let n = length-replicate {A = ℕ} (10240 - s) 0 in
       get_or-append_right (range_with_len 0 s) (replicate (10240 - s) 0 ++ drop 10240 p) s k 0 (length-range_with_len 0 s) h
       ∙ get_or_append_left (replicate (10240 - s) 0) (drop 10240 p) 0 (k - s) (omega arith)
       ∙ get_or-replicate (10240 - s) (k - s) 0 0 (omega arith)
 
-  pub cleared-long : length (cleared_words p s) ≡ length p
-  cleared-long = simp (length-append, length-range_with_len, length-replicate, length-drop) (omega arith)
+  pub cleared_long : length (cleared_words p s) ≡ length p
+  cleared_long = simp (length-append, length-range_with_len, length-replicate, length-drop) (omega arith)
 
-  pub cleared-table : 0 < s → Table (cleared_words p s) s
-  cleared-table o = record {
+  pub cleared_table : 0 < s → Table (cleared_words p s) s
+  cleared_table o = record {
     order = record {
       some = o;
       most = l;
-      words = let e = cleared-long in omega arith;
-      inside = λ k h. rw (cleared-order k h) h;
-      apart = λ j k h i e. sym (cleared-order j h) ∙ e ∙ cleared-order k i;
-      small = λ k h. rw (cleared-zero (4096 + k) (omega arith) (omega arith)) (omega arith);
-      idle = λ k h i. cleared-zero (4096 + k) (omega arith) (omega arith);
+      words = let e = cleared_long in omega arith;
+      inside = λ k h. rw (cleared_order k h) h;
+      apart = λ j k h i e. sym (cleared_order j h) ∙ e ∙ cleared_order k i;
+      small = λ k h. rw (cleared_zero (4096 + k) (omega arith) (omega arith)) (omega arith);
+      idle = λ k h i. cleared_zero (4096 + k) (omega arith) (omega arith);
     };
     sums = record {
-      long = simp length-drop (let e = cleared-long in omega arith);
+      long = simp length-drop (let e = cleared_long in omega arith);
       sums = λ i h j.
           let a = leaf i (omega arith) in let b = leaf (2 * i) (omega arith) in let d = leaf (2 * i + 1) (omega arith) in
           omega arith;
@@ -58,15 +58,15 @@ module _ (p : List ℕ) (s : ℕ) (l : s ≤ 2048) (w : 10240 ≤ length p) wher
   }
     where
       leaf : (i : ℕ) → i < 4096 → get_or (drop 2048 (cleared_words p s)) i 0 ≡ 0
-      leaf i h = get_or-drop 2048 (cleared_words p s) i 0 ∙ cleared-zero (2048 + i) (omega arith) (omega arith)
+      leaf i h = get_or-drop 2048 (cleared_words p s) i 0 ∙ cleared_zero (2048 + i) (omega arith) (omega arith)
 
-  pub cleared-text : (c : List ℕ) → cells_of c (cleared_words p s) s ≡ []
+  pub cleared_text : (c : List ℕ) → cells_of c (cleared_words p s) s ≡ []
   unfolding piece cells_at
-  cleared-text c = strung_none (piece c (cleared_words p s)) 0 s (λ i h. rw (cleared-zero (4096 + (0 + i)) (omega arith) (omega arith)))
+  cleared_text c = strung_none (piece c (cleared_words p s)) 0 s (λ i h. rw (cleared_zero (4096 + (0 + i)) (omega arith) (omega arith)))
 
-  pub cleared-marked : (c : List ℕ) → Marked c (cleared_words p s) s
+  pub cleared_marked : (c : List ℕ) → Marked c (cleared_words p s) s
   unfolding piece cells_at
-  cleared-marked c k h = rw (cleared-zero (4096 + k) (omega arith) (omega arith)) tt
+  cleared_marked c k h = rw (cleared_zero (4096 + k) (omega arith) (omega arith)) tt
 
 -- first zeros, then the order
 pub cleared_is : (p q r : List ℕ) (s : ℕ) → s ≤ 2048 → q ≡ replicate 10240 0 ++ drop 10240 p → r ≡ range_with_len 0 s ++ drop s q → r ≡ cleared_words p s

@@ -102,51 +102,51 @@ before_same q p (suc k) h = omega (arith, before_same q p k (λ j l. h j (omega 
 
 -- p is rotated to q in the order, and q to r in the lengths
 module _ (p q r : List ℕ) (s k : ℕ) (o : Order p s) (l : k + 1 < s) (h : Rotated p q (k + 1) (s - 1)) (g : Rotated q r (4096 + k + 1) (4096 + s - 1)) where
-  slot-below : (j : ℕ) → j ≤ k → slot r j ≡ slot p j
-  slot-below j a = g.below j (let m = o.most in omega arith) ∙ h.below j (omega arith)
+  slot_below : (j : ℕ) → j ≤ k → slot r j ≡ slot p j
+  slot_below j a = g.below j (let m = o.most in omega arith) ∙ h.below j (omega arith)
 
-  slot-first : slot r (k + 1) ≡ slot p (s - 1)
-  slot-first = g.below (k + 1) (let m = o.most in omega arith) ∙ h.first
+  slot_first : slot r (k + 1) ≡ slot p (s - 1)
+  slot_first = g.below (k + 1) (let m = o.most in omega arith) ∙ h.first
 
-  slot-up : (j : ℕ) → k < j → j + 1 < s → slot r (j + 1) ≡ slot p j
-  slot-up j a b = g.below (j + 1) (let m = o.most in omega arith) ∙ h.up j (omega arith) (omega arith)
+  slot_up : (j : ℕ) → k < j → j + 1 < s → slot r (j + 1) ≡ slot p j
+  slot_up j a b = g.below (j + 1) (let m = o.most in omega arith) ∙ h.up j (omega arith) (omega arith)
 
-  slot-past : (j : ℕ) → s ≤ j → j < 2048 → slot r j ≡ slot p j
-  slot-past j a b = g.below j (omega arith) ∙ h.above j (omega arith)
+  slot_past : (j : ℕ) → s ≤ j → j < 2048 → slot r j ≡ slot p j
+  slot_past j a b = g.below j (omega arith) ∙ h.above j (omega arith)
 
-  used-below : (j : ℕ) → j ≤ k → used r j ≡ used p j
-  used-below j a = g.below (4096 + j) (omega arith) ∙ h.above (4096 + j) (let m = o.most in omega arith)
+  used_below : (j : ℕ) → j ≤ k → used r j ≡ used p j
+  used_below j a = g.below (4096 + j) (omega arith) ∙ h.above (4096 + j) (let m = o.most in omega arith)
 
-  used-first : used r (k + 1) ≡ used p (s - 1)
-  used-first =
+  used_first : used r (k + 1) ≡ used p (s - 1)
+  used_first =
       let m = o.most in
       let a : 4096 + (k + 1) ≡ 4096 + k + 1 = omega arith in
       let b : 4096 + s - 1 ≡ 4096 + (s - 1) = omega arith in
       ap (λ i. get_or r i 0) a ∙ g.first ∙ ap (λ i. get_or q i 0) b ∙ h.above (4096 + (s - 1)) (omega arith)
 
-  used-up : (j : ℕ) → k < j → j + 1 < s → used r (j + 1) ≡ used p j
-  used-up j a b =
+  used_up : (j : ℕ) → k < j → j + 1 < s → used r (j + 1) ≡ used p j
+  used_up j a b =
       let m = o.most in
       let i : 4096 + (j + 1) ≡ 4096 + j + 1 = omega arith in
       ap (λ i. get_or r i 0) i ∙ g.up (4096 + j) (omega arith) (omega arith) ∙ h.above (4096 + j) (omega arith)
 
-  used-past : (j : ℕ) → s ≤ j → j < 2048 → used r j ≡ used p j
-  used-past j a b = g.above (4096 + j) (omega arith) ∙ h.above (4096 + j) (let m = o.most in omega arith)
+  used_past : (j : ℕ) → s ≤ j → j < 2048 → used r j ≡ used p j
+  used_past j a b = g.above (4096 + j) (omega arith) ∙ h.above (4096 + j) (let m = o.most in omega arith)
 
   was : (j : ℕ) → j < s → (i : ℕ) × (slot r j ≡ slot p i) × (used r j ≡ used p i) × (i < s) × Was k s j i
   was j a =
       elim (cases_order j (k + 1)) [
-        | inl e ↦ (s - 1, rw e slot-first, rw e used-first, omega arith, inr (inl (e, refl)))
+        | inl e ↦ (s - 1, rw e slot_first, rw e used_first, omega arith, inr (inl (e, refl)))
         | inr w ↦ elim w [
-          | inl b ↦ (j, slot-below j (omega arith), used-below j (omega arith), a, inl (omega arith, refl))
+          | inl b ↦ (j, slot_below j (omega arith), used_below j (omega arith), a, inl (omega arith, refl))
           | inr b ↦
               let i : j ≡ j - 1 + 1 = omega arith in
-              (j - 1, ap (slot r) i ∙ slot-up (j - 1) (omega arith) (omega arith), ap (used r) i ∙ used-up (j - 1) (omega arith) (omega arith), omega arith, inr (inr (b, i)))
+              (j - 1, ap (slot r) i ∙ slot_up (j - 1) (omega arith) (omega arith), ap (used r) i ∙ used_up (j - 1) (omega arith) (omega arith), omega arith, inr (inr (b, i)))
         ]
       ]
 
-  pub rotated-order : Order r s
-  rotated-order =
+  pub rotated_order : Order r s
+  rotated_order =
       record {
         some = o.some;
         most = o.most;
@@ -157,11 +157,11 @@ module _ (p q r : List ℕ) (s k : ℕ) (o : Order p s) (l : k + 1 < s) (h : Rot
             let e' : v.0 ≡ w.0 = o.apart v.0 w.0 v.3 w.3 (sym v.1 ∙ e ∙ w.1) in
             was_apart k s i j v.0 w.0 l a b v.4 w.4 e';
         small = λ j a. let w = was j a in rw w.2 (o.small w.0 w.3);
-        idle = λ j a b. used-past j a b ∙ o.idle j a b;
+        idle = λ j a b. used_past j a b ∙ o.idle j a b;
       }
 
-  pub rotated-frame : (c : List ℕ) → Frame c p c r s
-  rotated-frame c =
+  pub rotated_frame : (c : List ℕ) → Frame c p c r s
+  rotated_frame c =
       let m = o.most in
       let long : length r ≡ length p = g.long ∙ h.long in
       record {
@@ -170,42 +170,42 @@ module _ (p q r : List ℕ) (s k : ℕ) (o : Order p s) (l : k + 1 < s) (h : Rot
         cells_past = refl;
         words_past = ext_get_or 0 (drop 10240 r) (drop 10240 p) (length-drop 10240 r ∙ ap (λ n. n - 10240) long ∙ sym (length-drop 10240 p))
             (λ i a. get_or-drop 10240 r i 0 ∙ g.above (10240 + i) (omega arith) ∙ h.above (10240 + i) (omega arith) ∙ sym (get_or-drop 10240 p i 0));
-        spare = slot-past;
+        spare = slot_past;
       }
 
-  rotated-has : (i m : ℕ) → Has p i m → Has r i m
-  rotated-has i m x =
+  rotated_has : (i m : ℕ) → Has p i m → Has r i m
+  rotated_has i m x =
       record { low = rw (word (6144 + i) (omega arith)) x.low; high = rw (word (8192 + i) (omega arith)) x.high }
     where
       word : (w : ℕ) → 6144 ≤ w → get_or r w 0 ≡ get_or p w 0
       word w a = let n = o.most in g.above w (omega arith) ∙ h.above w (omega arith)
 
-  pub rotated-marked : (c : List ℕ) → Marked c p s → Marked c r s
-  rotated-marked c mk j a =
+  pub rotated_marked : (c : List ℕ) → Marked c p s → Marked c r s
+  rotated_marked c mk j a =
       let w = was j a in
       let i = w.0 in
-      rw (same_piece c r p j i w.1 w.2, w.1) (marks_moved p r (slot p i) (slot p i) (piece c p i) (rotated-has (slot p i)) (mk i w.3))
+      rw (same_piece c r p j i w.1 w.2, w.1) (marks_moved p r (slot p i) (slot p i) (piece c p i) (rotated_has (slot p i)) (mk i w.3))
 
   module _ (none : used p (s - 1) ≡ 0) where
-    pub rotated-next : used r (k + 1) ≡ 0
-    rotated-next = used-first ∙ none
+    pub rotated_next : used r (k + 1) ≡ 0
+    rotated_next = used_first ∙ none
 
-    pub rotated-here : used r k ≡ used p k
-    rotated-here = used-below k (omega arith)
+    pub rotated_here : used r k ≡ used p k
+    rotated_here = used_below k (omega arith)
 
-    pub rotated-before : before r k ≡ before p k
-    rotated-before = before_same r p k (λ j a. used-below j (omega arith))
+    pub rotated_before : before r k ≡ before p k
+    rotated_before = before_same r p k (λ j a. used_below j (omega arith))
 
-    pub rotated-text : (c : List ℕ) → cells_of c r s ≡ cells_of c p s
-    rotated-text c =
-        strung_rotated (piece c p) (piece c r) k s l (λ j a. same_piece c r p j j (slot-below j a) (used-below j a))
-        (piece_none c r (k + 1) rotated-next) (piece_none c p (s - 1) none)
-        (λ j a b. same_piece c r p (j + 1) j (slot-up j a b) (used-up j a b))
+    pub rotated_text : (c : List ℕ) → cells_of c r s ≡ cells_of c p s
+    rotated_text c =
+        strung_rotated (piece c p) (piece c r) k s l (λ j a. same_piece c r p j j (slot_below j a) (used_below j a))
+        (piece_none c r (k + 1) rotated_next) (piece_none c p (s - 1) none)
+        (λ j a b. same_piece c r p (j + 1) j (slot_up j a b) (used_up j a b))
 
 -- all counts are made right again
 module _ (c p q : List ℕ) (s : ℕ) (o : Order p s) (h : Recounted p q) where
-  pub recounted-used : (j : ℕ) → j < s → used q j ≡ used p j
-  recounted-used j a = elim (cases_eq j 0) [ inl e ↦ rw e h.here | inr ne ↦ h.others j (let m = o.most in omega arith) ne ]
+  pub recounted_used : (j : ℕ) → j < s → used q j ≡ used p j
+  recounted_used j a = elim (cases_eq j 0) [ inl e ↦ rw e h.here | inr ne ↦ h.others j (let m = o.most in omega arith) ne ]
 
   pub recounted : SameText c p c q s
   recounted =
@@ -214,8 +214,8 @@ module _ (c p q : List ℕ) (s : ℕ) (o : Order p s) (h : Recounted p q) where
       record {
         order = resized_order p q s 0 (used p 0) o h i (o.small 0 i);
         frame = frame_words c p q s 0 (used p 0) h;
-        text = strung_same (piece c q) (piece c p) 0 0 s (λ j a. same_piece c q p (0 + j) (0 + j) (h.order (0 + j) (omega arith)) (recounted-used (0 + j) (omega arith)));
-        marked = λ mk j a. rw (same_piece c q p j j (h.order j (omega arith)) (recounted-used j a))
+        text = strung_same (piece c q) (piece c p) 0 0 s (λ j a. same_piece c q p (0 + j) (0 + j) (h.order (0 + j) (omega arith)) (recounted_used (0 + j) (omega arith)));
+        marked = λ mk j a. rw (same_piece c q p j j (h.order j (omega arith)) (recounted_used j a))
             (carried p q s o (λ k l. h.order k (omega arith)) h.has j a (piece c p j) (mk j a));
       }
 
@@ -239,8 +239,8 @@ module _ (c p d q : List ℕ) (s k o n : ℕ) (w : Order p s) (l : k + 1 < s) (n
       let x = h.source in
       cc
 
-  moved-next : piece d q (k + 1) ≡ drop o (piece c p k)
-  moved-next =
+  moved_next : piece d q (k + 1) ≡ drop o (piece c p k)
+  moved_next =
       let u = length_piece c p k in
       let v = length-drop o (piece c p k) in
       let z = take_all n (drop o (piece c p k)) (omega arith) in
@@ -248,13 +248,13 @@ module _ (c p d q : List ℕ) (s k o n : ℕ) (w : Order p s) (l : k + 1 < s) (n
       let x = h.target in
       cc
 
-  pub moved-text : SameText c p d q s
-  moved-text =
+  pub moved_text : SameText c p d q s
+  moved_text =
       let t = take-append-drop o (piece c p k) in
       let z = piece_none c p (k + 1) none in
       let y = append-nil (piece c p k) in
       let f = moved_here in
-      let g = moved-next in
+      let g = moved_next in
       record {
         order = h.order;
         frame = h.frame;
@@ -262,14 +262,14 @@ module _ (c p d q : List ℕ) (s k o n : ℕ) (w : Order p s) (l : k + 1 < s) (n
         marked = h.marked;
       }
 
-  pub moved-used-here : used q k ≡ o
-  moved-used-here =
+  pub moved_used_here : used q k ≡ o
+  moved_used_here =
       let u = length_piece c p k in
       sym (length_piece d q k) ∙ ap length moved_here ∙ length-take-le o (piece c p k) (omega arith)
 
-  pub moved-used-next : used q (k + 1) ≡ used p k - o
-  moved-used-next =
-      sym (length_piece d q (k + 1)) ∙ ap length moved-next ∙ length-drop o (piece c p k) ∙ ap (λ m. m - o) (length_piece c p k)
+  pub moved_used_next : used q (k + 1) ≡ used p k - o
+  moved_used_next =
+      sym (length_piece d q (k + 1)) ∙ ap length moved_next ∙ length-drop o (piece c p k) ∙ ap (λ m. m - o) (length_piece c p k)
 
   pub moved_before : before q k ≡ before p k
   moved_before = before_same q p k (λ j i. used_from c p d q j j (h.others j (omega arith) (omega arith) (omega arith)))
@@ -279,17 +279,17 @@ pub cut : (c p q r d t v : List ℕ) (s k o n : ℕ) → Order p s → k + 1 < s
     → Rotated p q (k + 1) (s - 1) → Rotated q r (4096 + k + 1) (4096 + s - 1) → n ≡ used r k - o → Shifted c r d t s (k + 1) k o n → Recounted t v
     → Cut c p d v s k o
 cut c p q r d t v s k o n w l a none h g e f i =
-    let w' = rotated-order p q r s k w l h g in
-    let next = rotated-next p q r s k w l h g none in
-    let here = rotated-here p q r s k w l h g none in
-    let first : SameText c p c r s = record { order = w'; frame = rotated-frame p q r s k w l h g c; text = rotated-text p q r s k w l h g none c; marked = rotated-marked p q r s k w l h g c } in
+    let w' = rotated_order p q r s k w l h g in
+    let next = rotated_next p q r s k w l h g none in
+    let here = rotated_here p q r s k w l h g none in
+    let first : SameText c p c r s = record { order = w'; frame = rotated_frame p q r s k w l h g c; text = rotated_text p q r s k w l h g none c; marked = rotated_marked p q r s k w l h g c } in
     let a' : o ≤ used r k = omega arith in
-    let second = moved-text c r d t s k o n w' l next a' e f in
+    let second = moved_text c r d t s k o n w' l next a' e f in
     let third = recounted d t v s f.order i in
-    let same = recounted-used d t v s f.order i in
+    let same = recounted_used d t v s f.order i in
     record {
       same = same_both c p c r d v s first (same_both c r d t d v s second third);
-      place = before_same v t k (λ j m. same j (omega arith)) ∙ moved_before c r d t s k o n w' l next a' e f ∙ rotated-before p q r s k w l h g none;
-      here = same k (omega arith) ∙ moved-used-here c r d t s k o n w' l next a' e f;
-      next = same (k + 1) l ∙ moved-used-next c r d t s k o n w' l next a' e f ∙ ap (λ m. m - o) here;
+      place = before_same v t k (λ j m. same j (omega arith)) ∙ moved_before c r d t s k o n w' l next a' e f ∙ rotated_before p q r s k w l h g none;
+      here = same k (omega arith) ∙ moved_used_here c r d t s k o n w' l next a' e f;
+      next = same (k + 1) l ∙ moved_used_next c r d t s k o n w' l next a' e f ∙ ap (λ m. m - o) here;
     }

@@ -11,7 +11,7 @@ use Rattle.pieces.specs.Marks.{Marks, with_set, noted_cells, Beside, Grown}
 use Rattle.pieces.specs.Store.{slot, used, piece, cells_of, before, Marked, Order, Store, Frame, Edited}
 use Rattle.pieces.specs.Edits.{replaced, Changed, Cut}
 use Rattle.pieces.proofs.Texts.{length_piece, length_text, before_more, before_within}
-use Rattle.pieces.proofs.Sets.{sums_beside, marks_moved, beside_both, set-beside, set_apart, cells_noted}
+use Rattle.pieces.proofs.Sets.{sums_beside, marks_moved, beside_both, set_beside, set_apart, cells_noted}
 use Rattle.pieces.proofs.Change.{changed_text, changed_marked, carried, length_replaced, replaced_here, resized_none, resized_grown, frame_both, frame_none}
 use Rattle.pieces.proofs.Cells.{overwritten}
 use Rattle.pieces.proofs.Cuts.{used_from, before_same, same_piece}
@@ -136,8 +136,8 @@ module _ (c p q : List ℕ) (s : ℕ) (t : Store c p s) (h : Beside p q) where
       let most = t.table.order.most in
       same_piece c q p k k (h.below k (omega arith)) (h.below (4096 + k) (omega arith))
 
-  pub beside-store : Marked c q s → Store c q s
-  beside-store mk =
+  pub beside_store : Marked c q s → Store c q s
+  beside_store mk =
       let o = t.table.order in
       let most = o.most in
       let long = h.long in
@@ -159,8 +159,8 @@ module _ (c p q : List ℕ) (s : ℕ) (t : Store c p s) (h : Beside p q) where
         marked = mk;
       }
 
-  pub beside-edited : Store c q s → Edited c p c q s (cells_of c p s)
-  beside-edited u =
+  pub beside_edited : Store c q s → Edited c p c q s (cells_of c p s)
+  beside_edited u =
       let most = t.table.order.most in
       record {
         store = u;
@@ -173,7 +173,7 @@ pub grown_store : (c p q : List ℕ) (s : ℕ) → Store c p s → Grown p q →
 grown_store c p q s t g =
     let o = t.table.order in
     let most = o.most in
-    beside-store c p q s t g.beside (λ k l. rw (beside_piece c p q s t g.beside k l)
+    beside_store c p q s t g.beside (λ k l. rw (beside_piece c p q s t g.beside k l)
     (carried p q s o (λ j a. g.beside.below j (omega arith)) g.has k l (piece c p k) (t.marked k l)))
 
 -- the set of piece k made anew
@@ -184,7 +184,7 @@ remarked c p q s k t l e =
     let inside = o.inside k l in
     let i = slot p k in
     let p' = with_set p i 0 0 in
-    let b' = set-beside p i 0 0 (omega arith) o.words in
+    let b' = set_beside p i 0 0 (omega arith) o.words in
     let long = b'.long in
     let words = o.words in
     let new = cells_noted p' i (piece c p k) (omega arith) (omega arith) in
@@ -192,7 +192,7 @@ remarked c p q s k t l e =
     let b = beside_both p p' q b' g.beside in
     let here : AllByRecursion (Marks q i) (piece c p k) = rw e new.1 in (
       b,
-      beside-store c p q s t b (λ x y.
+      beside_store c p q s t b (λ x y.
           let a = o.inside x y in
           rw (beside_piece c p q s t b x y, b.below x (omega arith)) (
           elim (cases_eq x k) [

@@ -2,7 +2,7 @@
 use Rattle.std.proofs.Common.{◌≡◌, ℕ, ◌+◌, ◌-◌, ◌<◌, ◌≤◌, ◌≢◌, List, ◌++◌, length, get_or, take, drop, set, sym, ap, ◌∙◌, arith}
 use borrow.Rule.Slice.PartMut.{put_mid}
 use Rattle.std.proofs.lemmas.List.{take_rest, length-set, length-append, length-drop, length-take-le, get_or-set_same, get_or-set_other, get_or_append_left, get_or-take, get_or-drop, drop-drop, drop-set-lt}
-use Rattle.tree.proofs.Part.{lent_back, lent-word}
+use Rattle.tree.proofs.Part.{lent_back, lent_word}
 use Rattle.pieces.specs.Store.{slot, used}
 use Rattle.pieces.specs.Edits.{Resized}
 
@@ -34,8 +34,8 @@ set_resized p k n l w =
 
 -- the words from a on were lent and came back as ys
 module _ (a : ℕ) (xs ys : List ℕ) (start : a ≤ length xs) (long : length ys ≡ length xs - a) where
-  lent-front : (j : ℕ) → j < a → get_or (put_mid a (length xs - a) xs ys) j 0 ≡ get_or xs j 0
-  lent-front j l =
+  lent_front : (j : ℕ) → j < a → get_or (put_mid a (length xs - a) xs ys) j 0 ≡ get_or xs j 0
+  lent_front j l =
       let f : length (take a xs) ≡ a = length-take-le a xs start in
       get_or_append_left (take a xs) (ys ++ drop (length xs - a) (drop a xs)) 0 j (omega arith) ∙ get_or-take a xs j 0 l
 
@@ -48,27 +48,27 @@ module _ (a : ℕ) (xs ys : List ℕ) (start : a ≤ length xs) (long : length y
       let t = length-drop a xs in
       omega arith
 
-  lent-past : (m : ℕ) → drop m ys ≡ drop m (drop a xs) → drop (a + m) (put_mid a (length xs - a) xs ys) ≡ drop (a + m) xs
-  lent-past m e =
+  lent_past : (m : ℕ) → drop m ys ≡ drop m (drop a xs) → drop (a + m) (put_mid a (length xs - a) xs ys) ≡ drop (a + m) xs
+  lent_past m e =
       sym (drop-drop m a (put_mid a (length xs - a) xs ys)) ∙ ap (drop m) (lent_back a xs ys start long) ∙ e ∙ drop-drop m a xs
 
 -- the words from 2048 on were lent and came back as ys
 module _ (p ys : List ℕ) (w : 6144 ≤ length p) (l : length ys ≡ length (take (length p - 2048) (drop 2048 p))) where
-  part-long : length ys ≡ length p - 2048
-  part-long =
+  part_long : length ys ≡ length p - 2048
+  part_long =
       l ∙ length-take-le (length p - 2048) (drop 2048 p) (simp length-drop (omega arith))
 
-  pub part-back : drop 2048 (put_mid 2048 (length p - 2048) p ys) ≡ ys
-  part-back = lent_back 2048 p ys (omega arith) part-long
+  pub part_back : drop 2048 (put_mid 2048 (length p - 2048) p ys) ≡ ys
+  part_back = lent_back 2048 p ys (omega arith) part_long
 
-  part-leaf : (j : ℕ) → used (put_mid 2048 (length p - 2048) p ys) j ≡ get_or ys (2048 + j) 0
-  part-leaf j =
+  part_leaf : (j : ℕ) → used (put_mid 2048 (length p - 2048) p ys) j ≡ get_or ys (2048 + j) 0
+  part_leaf j =
       let e : 4096 + j ≡ 2048 + (2048 + j) = omega arith in
-      ap (λ i. get_or (put_mid 2048 (length p - 2048) p ys) i 0) e ∙ lent-word 2048 p ys (omega arith) part-long (2048 + j)
+      ap (λ i. get_or (put_mid 2048 (length p - 2048) p ys) i 0) e ∙ lent_word 2048 p ys (omega arith) part_long (2048 + j)
 
-  pub part-resized : (k n : ℕ) → get_or ys (2048 + k) 0 ≡ n → ((j : ℕ) → j < 2048 → j ≢ k → get_or ys (2048 + j) 0 ≡ used p j)
+  pub part_resized : (k n : ℕ) → get_or ys (2048 + k) 0 ≡ n → ((j : ℕ) → j < 2048 → j ≢ k → get_or ys (2048 + j) 0 ≡ used p j)
       → drop 4096 ys ≡ drop 4096 (take (length p - 2048) (drop 2048 p)) → Resized p (put_mid 2048 (length p - 2048) p ys) k n
-  part-resized k n here others rest =
-      resized p (put_mid 2048 (length p - 2048) p ys) k n (lent_length 2048 p ys (omega arith) part-long) (part-leaf k ∙ here)
-      (λ j m ne. part-leaf j ∙ others j m ne) (λ j m. lent-front 2048 p ys (omega arith) part-long j m)
-      (lent-past 2048 p ys (omega arith) part-long 4096 (rest ∙ ap (drop 4096) (take_rest p 2048)))
+  part_resized k n here others rest =
+      resized p (put_mid 2048 (length p - 2048) p ys) k n (lent_length 2048 p ys (omega arith) part_long) (part_leaf k ∙ here)
+      (λ j m ne. part_leaf j ∙ others j m ne) (λ j m. lent_front 2048 p ys (omega arith) part_long j m)
+      (lent_past 2048 p ys (omega arith) part_long 4096 (rest ∙ ap (drop 4096) (take_rest p 2048)))

@@ -31,13 +31,13 @@ packed_start p = record { full = λ k a. absurd (omega arith); empty = λ k a b.
 
 -- n cells go from the front of piece j to the end of piece i
 module _ (c p d q : List ℕ) (s i j n : ℕ) (l : i < j) (m : j < s) (a : n ≤ used p j) (k : Packed p i j) (h : Shifted c p d q s i j 0 n) where
-  poured-source : piece d q j ≡ drop n (piece c p j)
-  poured-source = h.source ∙ ap (λ x. drop x (piece c p j)) (zero-add n)
+  poured_source : piece d q j ≡ drop n (piece c p j)
+  poured_source = h.source ∙ ap (λ x. drop x (piece c p j)) (zero-add n)
 
-  pub poured-text : SameText c p d q s
-  poured-text =
+  pub poured_text : SameText c p d q s
+  poured_text =
       let t = take-append-drop n (piece c p j) in
-      let x = poured-source in
+      let x = poured_source in
       let y = h.target in
       let b = append_assoc (piece c p i) (take n (piece c p j)) (drop n (piece c p j)) in
       record {
@@ -47,15 +47,15 @@ module _ (c p d q : List ℕ) (s i j n : ℕ) (l : i < j) (m : j < s) (a : n ≤
         marked = h.marked;
       }
 
-  pub poured-packed : Packed q i j
-  poured-packed =
+  pub poured_packed : Packed q i j
+  poured_packed =
       record {
         full = λ x y. rw (used_from c p d q x x (h.others x (omega arith) (omega arith) (omega arith))) (k.full x y);
         empty = λ x y z. used_from c p d q x x (h.others x (omega arith) (omega arith) (omega arith)) ∙ k.empty x y z;
       }
 
-  pub poured-less : used q j ≡ used p j - n
-  poured-less = sym (length_piece d q j) ∙ ap length poured-source ∙ length-drop n (piece c p j) ∙ ap (λ x. x - n) (length_piece c p j)
+  pub poured_less : used q j ≡ used p j - n
+  poured_less = sym (length_piece d q j) ∙ ap length poured_source ∙ length-drop n (piece c p j) ∙ ap (λ x. x - n) (length_piece c p j)
 
 before_full : (p : List ℕ) (n : ℕ) → ((k : ℕ) → k < n → 768 ≤ used p k) → 768 * n ≤ before p n
 unfolding before

@@ -29,18 +29,18 @@ bit_own j = let e : 2 ^ j / 2 ^ j ≡ 1 = rw one-mul at (shl-shr 1 j) in rw e
 
 -- the words of slot a written
 module _ (p : List ℕ) (a x y : ℕ) (l : a < 2048) (w : 10240 ≤ length p) where
-  set-low : get_or (with_set p a x y) (6144 + a) 0 ≡ x
-  set-low =
+  set_low : get_or (with_set p a x y) (6144 + a) 0 ≡ x
+  set_low =
       get_or-set_other (set p (6144 + a) x) (8192 + a) (6144 + a) y 0 (omega arith) ∙ get_or-set_same p (6144 + a) x 0 (omega arith)
 
-  set-high : get_or (with_set p a x y) (8192 + a) 0 ≡ y
-  set-high = get_or-set_same (set p (6144 + a) x) (8192 + a) y 0 (simp length-set (omega arith))
+  set_high : get_or (with_set p a x y) (8192 + a) 0 ≡ y
+  set_high = get_or-set_same (set p (6144 + a) x) (8192 + a) y 0 (simp length-set (omega arith))
 
   set_other : (k : ℕ) → k ≢ 6144 + a → k ≢ 8192 + a → get_or (with_set p a x y) k 0 ≡ get_or p k 0
   set_other k e f = get_or-set_other (set p (6144 + a) x) (8192 + a) k y 0 f ∙ get_or-set_other p (6144 + a) k x 0 e
 
-  pub set-beside : Beside p (with_set p a x y)
-  set-beside =
+  pub set_beside : Beside p (with_set p a x y)
+  set_beside =
       record {
         long = length-set (set p (6144 + a) x) (8192 + a) y ∙ length-set p (6144 + a) x;
         below = λ k h. set_other k (omega arith) (omega arith);
@@ -52,32 +52,32 @@ module _ (p : List ℕ) (a x y : ℕ) (l : a < 2048) (w : 10240 ≤ length p) wh
   set_apart i m b ne h =
       record { low = rw (set_other (6144 + i) (omega arith) (omega arith)) h.low; high = rw (set_other (8192 + i) (omega arith) (omega arith)) h.high }
 
-  set-has : (m : ℕ) → Bit x (m % 32) → Bit y (m / 32 % 32) → Has (with_set p a x y) a m
-  set-has m b c = record { low = rw set-low b; high = rw set-high c }
+  set_has : (m : ℕ) → Bit x (m % 32) → Bit y (m / 32 % 32) → Has (with_set p a x y) a m
+  set_has m b c = record { low = rw set_low b; high = rw set_high c }
 
 -- bits x and y added to the words of slot a
 module _ (p : List ℕ) (a x y : ℕ) (l : a < 2048) (w : 10240 ≤ length p) where
-  more-has : (m : ℕ) → Bit x (m % 32) → Bit y (m / 32 % 32) → Has (with_set p a (bit_or (get_or p (6144 + a) 0) x) (bit_or (get_or p (8192 + a) 0) y)) a m
-  more-has m b c =
-      set-has p a _ _ l w m (bit_right (get_or p (6144 + a) 0) x (m % 32) b) (bit_right (get_or p (8192 + a) 0) y (m / 32 % 32) c)
+  more_has : (m : ℕ) → Bit x (m % 32) → Bit y (m / 32 % 32) → Has (with_set p a (bit_or (get_or p (6144 + a) 0) x) (bit_or (get_or p (8192 + a) 0) y)) a m
+  more_has m b c =
+      set_has p a _ _ l w m (bit_right (get_or p (6144 + a) 0) x (m % 32) b) (bit_right (get_or p (8192 + a) 0) y (m / 32 % 32) c)
 
-  more-kept : (m : ℕ) → Has p a m → Has (with_set p a (bit_or (get_or p (6144 + a) 0) x) (bit_or (get_or p (8192 + a) 0) y)) a m
-  more-kept m h =
-      set-has p a _ _ l w m (bit_left (get_or p (6144 + a) 0) x (m % 32) h.low) (bit_left (get_or p (8192 + a) 0) y (m / 32 % 32) h.high)
+  more_kept : (m : ℕ) → Has p a m → Has (with_set p a (bit_or (get_or p (6144 + a) 0) x) (bit_or (get_or p (8192 + a) 0) y)) a m
+  more_kept m h =
+      set_has p a _ _ l w m (bit_left (get_or p (6144 + a) 0) x (m % 32) h.low) (bit_left (get_or p (8192 + a) 0) y (m / 32 % 32) h.high)
 
-  more-grown : Grown p (with_set p a (bit_or (get_or p (6144 + a) 0) x) (bit_or (get_or p (8192 + a) 0) y))
-  more-grown =
+  more_grown : Grown p (with_set p a (bit_or (get_or p (6144 + a) 0) x) (bit_or (get_or p (8192 + a) 0) y))
+  more_grown =
       record {
-        beside = set-beside p a _ _ l w;
-        has = λ i m b h. elim (cases_eq i a) [ inl e ↦ rw e (more-kept m (rw e at h)) | inr ne ↦ set_apart p a _ _ l w i m b ne h ];
+        beside = set_beside p a _ _ l w;
+        has = λ i m b h. elim (cases_eq i a) [ inl e ↦ rw e (more_kept m (rw e at h)) | inr ne ↦ set_apart p a _ _ l w i m b ne h ];
       }
 
 pub joined : (p : List ℕ) (a b : ℕ) → a < 2048 → 10240 ≤ length p
     → Joined p (with_set p a (bit_or (get_or p (6144 + a) 0) (get_or p (6144 + b) 0)) (bit_or (get_or p (8192 + a) 0) (get_or p (8192 + b) 0))) a b
 joined p a b l w =
     record {
-      grown = more-grown p a (get_or p (6144 + b) 0) (get_or p (8192 + b) 0) l w;
-      both = λ m h. more-has p a (get_or p (6144 + b) 0) (get_or p (8192 + b) 0) l w m h.low h.high;
+      grown = more_grown p a (get_or p (6144 + b) 0) (get_or p (8192 + b) 0) l w;
+      both = λ m h. more_has p a (get_or p (6144 + b) 0) (get_or p (8192 + b) 0) l w m h.low h.high;
     }
 
 pub beside_none : (p : List ℕ) → Beside p p
@@ -90,12 +90,12 @@ pub noted_grown : (p : List ℕ) (i m : ℕ) → i < 2048 → 10240 ≤ length p
 noted_grown p i m l w =
     elim (cases_eq m 0) [
       | inl e ↦ rw (eq-eqb m 0 e) (grown_none p)
-      | inr ne ↦ rw (ne_eqb m 0 ne) (more-grown p i (2 ^ (m % 32)) (2 ^ (m / 32 % 32)) l w)
+      | inr ne ↦ rw (ne_eqb m 0 ne) (more_grown p i (2 ^ (m % 32)) (2 ^ (m / 32 % 32)) l w)
     ]
 
 pub noted_has : (p : List ℕ) (i m : ℕ) → i < 2048 → 10240 ≤ length p → 0 < m → Has (noted p i m) i m
 noted_has p i m l w some =
-    rw (ne_eqb m 0 (λ e. omega arith)) (more-has p i (2 ^ (m % 32)) (2 ^ (m / 32 % 32)) l w m (bit_own (m % 32)) (bit_own (m / 32 % 32)))
+    rw (ne_eqb m 0 (λ e. omega arith)) (more_has p i (2 ^ (m % 32)) (2 ^ (m / 32 % 32)) l w m (bit_own (m % 32)) (bit_own (m / 32 % 32)))
 
 pub noted_none : (p : List ℕ) (i m : ℕ) → m ≡ 0 → p ≡ noted p i m
 noted_none p i m e = rw (eq-eqb m 0 e)

@@ -32,14 +32,14 @@ view_hidden : (k : ℕ) (xs vs : List Cell) (x : Cell) → vs ≡ view k xs → 
 view_hidden k xs vs x e s = e ∙ (sym (append-nil (view k xs)) ∙ (ap (λ b. view k xs ++ pick b (x ∷ []) []) (sym s) ∙ sym (view_push k xs x)))
 
 module _ (k i : ℕ) (cells v : List code.Cell) (d : code.Cell) (h : i < length cells) (inv : cells_of v ≡ view k (cells_of (take i cells))) where
-  pub view-step : (after : List code.Cell) → seen k (cell_of (get_or cells i d)) ≡ true → after ≡ v ++ (get_or cells i d ∷ []) → cells_of after ≡ view k (cells_of (take (i + 1) cells))
-  view-step after s e =
+  pub view_step : (after : List code.Cell) → seen k (cell_of (get_or cells i d)) ≡ true → after ≡ v ++ (get_or cells i d ∷ []) → cells_of after ≡ view k (cells_of (take (i + 1) cells))
+  view_step after s e =
       ap cells_of e
       ∙ (map_push cell_of v (get_or cells i d)
       ∙ (view_seen k (cells_of (take i cells)) (cells_of v) (cell_of (get_or cells i d)) inv s ∙ ap (view k) (sym (map_more cell_of cells i d h))))
 
-  pub view-pass : seen k (cell_of (get_or cells i d)) ≡ false → cells_of v ≡ view k (cells_of (take (i + 1) cells))
-  view-pass s = view_hidden k (cells_of (take i cells)) (cells_of v) (cell_of (get_or cells i d)) inv s ∙ ap (view k) (sym (map_more cell_of cells i d h))
+  pub view_pass : seen k (cell_of (get_or cells i d)) ≡ false → cells_of v ≡ view k (cells_of (take (i + 1) cells))
+  view_pass s = view_hidden k (cells_of (take i cells)) (cells_of v) (cell_of (get_or cells i d)) inv s ∙ ap (view k) (sym (map_more cell_of cells i d h))
 
 pub view_none : (k : ℕ) → view k [] ≡ []
 unfolding view
@@ -50,21 +50,21 @@ module _ (xs : List Cell) (n i : ℕ) (d : Cell) (h : i < length xs) (k : i < n)
   one : n - i ≡ suc (n - (i + 1))
   one = omega arith
 
-  end-at : first_end (drop i xs) (n - i) i ≡ pick (eqb (get_or xs i d).letter 10) (suc i) (first_end (drop (i + 1) xs) (n - (i + 1)) (suc i))
+  end_at : first_end (drop i xs) (n - i) i ≡ pick (eqb (get_or xs i d).letter 10) (suc i) (first_end (drop (i + 1) xs) (n - (i + 1)) (suc i))
   unfolding first_end
-  end-at = ap (λ ys. first_end ys (n - i) i) (drop_more xs i d h) ∙ ap (λ m. first_end (get_or xs i d ∷ drop (i + 1) xs) m i) one
+  end_at = ap (λ ys. first_end ys (n - i) i) (drop_more xs i d h) ∙ ap (λ m. first_end (get_or xs i d ∷ drop (i + 1) xs) m i) one
 
   pub end_found : (get_or xs i d).letter ≡ 10 → first_end (drop i xs) (n - i) i ≡ suc i
-  end_found e = end-at ∙ ap (λ b. pick b (suc i) (first_end (drop (i + 1) xs) (n - (i + 1)) (suc i))) (eq-eqb (get_or xs i d).letter 10 e)
+  end_found e = end_at ∙ ap (λ b. pick b (suc i) (first_end (drop (i + 1) xs) (n - (i + 1)) (suc i))) (eq-eqb (get_or xs i d).letter 10 e)
 
   pub end_more : ((get_or xs i d).letter ≡ 10 → ⊥) → first_end (drop i xs) (n - i) i ≡ first_end (drop (i + 1) xs) (n - (i + 1)) (i + 1)
   end_more e =
       let s : suc i ≡ i + 1 = omega arith in
-      end-at ∙ (ap (λ b. pick b (suc i) (first_end (drop (i + 1) xs) (n - (i + 1)) (suc i))) (ne_eqb (get_or xs i d).letter 10 e) ∙ ap (first_end (drop (i + 1) xs) (n - (i + 1))) s)
+      end_at ∙ (ap (λ b. pick b (suc i) (first_end (drop (i + 1) xs) (n - (i + 1)) (suc i))) (ne_eqb (get_or xs i d).letter 10 e) ∙ ap (first_end (drop (i + 1) xs) (n - (i + 1))) s)
 
-  space-at : (found : ℕ) → last_space (drop i xs) (n - i) i found ≡ last_space (drop (i + 1) xs) (n - (i + 1)) (i + 1) (pick (eqb (get_or xs i d).letter 32) (i + 1) found)
+  space_at : (found : ℕ) → last_space (drop i xs) (n - i) i found ≡ last_space (drop (i + 1) xs) (n - (i + 1)) (i + 1) (pick (eqb (get_or xs i d).letter 32) (i + 1) found)
   unfolding last_space
-  space-at found =
+  space_at found =
       let s : suc i ≡ i + 1 = omega arith in
       ap (λ ys. last_space ys (n - i) i found) (drop_more xs i d h)
       ∙ (ap (λ m. last_space (get_or xs i d ∷ drop (i + 1) xs) m i found) one
@@ -73,10 +73,10 @@ module _ (xs : List Cell) (n i : ℕ) (d : Cell) (h : i < length xs) (k : i < n)
   pub space_found : (found : ℕ) → (get_or xs i d).letter ≡ 32 → last_space (drop i xs) (n - i) i found ≡ last_space (drop (i + 1) xs) (n - (i + 1)) (i + 1) (suc i)
   space_found found e =
       let s : i + 1 ≡ suc i = omega arith in
-      space-at found ∙ (ap (λ b. last_space (drop (i + 1) xs) (n - (i + 1)) (i + 1) (pick b (i + 1) found)) (eq-eqb (get_or xs i d).letter 32 e) ∙ ap (last_space (drop (i + 1) xs) (n - (i + 1)) (i + 1)) s)
+      space_at found ∙ (ap (λ b. last_space (drop (i + 1) xs) (n - (i + 1)) (i + 1) (pick b (i + 1) found)) (eq-eqb (get_or xs i d).letter 32 e) ∙ ap (last_space (drop (i + 1) xs) (n - (i + 1)) (i + 1)) s)
 
-  pub space-more : (found : ℕ) → ((get_or xs i d).letter ≡ 32 → ⊥) → last_space (drop i xs) (n - i) i found ≡ last_space (drop (i + 1) xs) (n - (i + 1)) (i + 1) found
-  space-more found e = space-at found ∙ ap (λ b. last_space (drop (i + 1) xs) (n - (i + 1)) (i + 1) (pick b (i + 1) found)) (ne_eqb (get_or xs i d).letter 32 e)
+  pub space_more : (found : ℕ) → ((get_or xs i d).letter ≡ 32 → ⊥) → last_space (drop i xs) (n - i) i found ≡ last_space (drop (i + 1) xs) (n - (i + 1)) (i + 1) found
+  space_more found e = space_at found ∙ ap (λ b. last_space (drop (i + 1) xs) (n - (i + 1)) (i + 1) (pick b (i + 1) found)) (ne_eqb (get_or xs i d).letter 32 e)
 
 end_none : (xs : List Cell) (i : ℕ) → first_end xs 0 i ≡ 0
 unfolding first_end
@@ -97,8 +97,8 @@ unfolding last_space
 space_nil n i found = refl
 
 module _ (xs : List Cell) (n i : ℕ) (h : min (length xs) n ≤ i) where
-  pub end-last : first_end (drop i xs) (n - i) i ≡ 0
-  end-last =
+  pub end_last : first_end (drop i xs) (n - i) i ≡ 0
+  end_last =
       elim (cases_lt i (length xs)) [
         | inl l ↦
             let z : n - i ≡ 0 = omega arith in
@@ -106,8 +106,8 @@ module _ (xs : List Cell) (n i : ℕ) (h : min (length xs) n ≤ i) where
         | inr l ↦ ap (λ ys. first_end ys (n - i) i) (drop_all i xs l) ∙ end_nil (n - i) i
       ]
 
-  pub space-last : (found : ℕ) → last_space (drop i xs) (n - i) i found ≡ found
-  space-last found =
+  pub space_last : (found : ℕ) → last_space (drop i xs) (n - i) i found ≡ found
+  space_last found =
       elim (cases_lt i (length xs)) [
         | inl l ↦
             let z : n - i ≡ 0 = omega arith in
@@ -117,30 +117,30 @@ module _ (xs : List Cell) (n i : ℕ) (h : min (length xs) n ≤ i) where
 
 -- where the first row is cut
 module _ (w : ℕ) (xs : List Cell) where
-  pub cut-end : (s : ℕ) → suc s ≡ first_end xs (suc w) 0 → record { long = s; skips = 1 } ≡ cut w xs
-  cut-end s e =
+  pub cut_end : (s : ℕ) → suc s ≡ first_end xs (suc w) 0 → record { long = s; skips = 1 } ≡ cut w xs
+  cut_end s e =
       let m : suc s - 1 ≡ s = omega arith in
       ap (λ (k : ℕ). record { long = k; skips = 1 }) (sym m)
       ∙ (ap (λ b. pick b (pick (leb (length xs) w) (record { long = length xs; skips = 0 }) (cut_after w (last_space xs (suc w) 0 0))) (record { long = suc s - 1; skips = 1 })) (sym (eqb-suc-zero s))
       ∙ ap (λ (v : ℕ). pick (eqb v 0) (pick (leb (length xs) w) (record { long = length xs; skips = 0 }) (cut_after w (last_space xs (suc w) 0 0))) (record { long = v - 1; skips = 1 })) e)
 
   module _ (none : 0 ≡ first_end xs (suc w) 0) where
-    cut-rest : cut w xs ≡ pick (leb (length xs) w) (record { long = length xs; skips = 0 }) (cut_after w (last_space xs (suc w) 0 0))
-    cut-rest = ap (λ (v : ℕ). pick (eqb v 0) (pick (leb (length xs) w) (record { long = length xs; skips = 0 }) (cut_after w (last_space xs (suc w) 0 0))) (record { long = v - 1; skips = 1 })) (sym none)
+    cut_rest : cut w xs ≡ pick (leb (length xs) w) (record { long = length xs; skips = 0 }) (cut_after w (last_space xs (suc w) 0 0))
+    cut_rest = ap (λ (v : ℕ). pick (eqb v 0) (pick (leb (length xs) w) (record { long = length xs; skips = 0 }) (cut_after w (last_space xs (suc w) 0 0))) (record { long = v - 1; skips = 1 })) (sym none)
 
     pub cut_all : length xs ≤ w → record { long = length xs; skips = 0 } ≡ cut w xs
-    cut_all h = sym (cut-rest ∙ ap (λ b. pick b (record { long = length xs; skips = 0 }) (cut_after w (last_space xs (suc w) 0 0))) (le-leb (length xs) w h))
+    cut_all h = sym (cut_rest ∙ ap (λ b. pick b (record { long = length xs; skips = 0 }) (cut_after w (last_space xs (suc w) 0 0))) (le-leb (length xs) w h))
 
-    cut-wide : w < length xs → cut w xs ≡ cut_after w (last_space xs (suc w) 0 0)
-    cut-wide h = cut-rest ∙ ap (λ b. pick b (record { long = length xs; skips = 0 }) (cut_after w (last_space xs (suc w) 0 0))) (lt-leb (length xs) w h)
+    cut_wide : w < length xs → cut w xs ≡ cut_after w (last_space xs (suc w) 0 0)
+    cut_wide h = cut_rest ∙ ap (λ b. pick b (record { long = length xs; skips = 0 }) (cut_after w (last_space xs (suc w) 0 0))) (lt-leb (length xs) w h)
 
-    pub cut-space : w < length xs → (s : ℕ) → suc s ≡ last_space xs (suc w) 0 0 → record { long = s; skips = 1 } ≡ cut w xs
+    pub cut_space : w < length xs → (s : ℕ) → suc s ≡ last_space xs (suc w) 0 0 → record { long = s; skips = 1 } ≡ cut w xs
     unfolding cut_after
-    cut-space h s e = sym (cut-wide h ∙ ap (cut_after w) (sym e))
+    cut_space h s e = sym (cut_wide h ∙ ap (cut_after w) (sym e))
 
-    pub cut-full : w < length xs → 0 ≡ last_space xs (suc w) 0 0 → record { long = w; skips = 0 } ≡ cut w xs
+    pub cut_full : w < length xs → 0 ≡ last_space xs (suc w) 0 0 → record { long = w; skips = 0 } ≡ cut w xs
     unfolding cut_after
-    cut-full h e = sym (cut-wide h ∙ ap (cut_after w) (sym e))
+    cut_full h e = sym (cut_wide h ∙ ap (cut_after w) (sym e))
 
 -- a row, and the rows after it
 row_more : (line : List ℕ) (x : Cell) (xs : List Cell) → (line ++ cell_line x.letter x.put_in x.struck) ++ row_line xs ≡ line ++ row_line (x ∷ xs)

@@ -65,8 +65,8 @@ module _ (text old ns : List ℕ) (n : ℕ) (most : length old ≡ 8449) where
               w (subst WordFits (get_or-take (n + 1) (words text) n [] h) (All-get_or WordFits (take (n + 1) (words text)) n [] l fits))
         ]
 
-    pub stops-whole : (j : ℕ) → j ≡ n → (c m : ℕ) → IsFile (take j ns) c m → CeasesAt text n
-    stops-whole j e c m g =
+    pub stops_whole : (j : ℕ) → j ≡ n → (c m : ℕ) → IsFile (take j ns) c m → CeasesAt text n
+    stops_whole j e c m g =
         let f : IsFile (take n ns) c m = subst (λ (k : ℕ). IsFile (take k ns) c m) e g in
         let h : n ≤ n = omega arith in (
           record {
@@ -78,8 +78,8 @@ module _ (text old ns : List ℕ) (n : ℕ) (most : length old ≡ 8449) where
           omega (arith, s.room),
         )
 
-    pub stops-early : (j : ℕ) → j ≡ n → (i : ℕ) → Ceases (take j ns) i → CeasesAt text i
-    stops-early j same i f =
+    pub stops_early : (j : ℕ) → j ≡ n → (i : ℕ) → Ceases (take j ns) i → CeasesAt text i
+    stops_early j same i f =
         let g : Ceases (take n (map value (words text))) i = subst (λ (us : List ℕ). Ceases us i) (ap (λ (k : ℕ). take k ns) same ∙ front_of) f in
         let h : i ≤ n = omega (arith, g.within, length-take n (map value (words text))) in (
           record {

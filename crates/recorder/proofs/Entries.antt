@@ -35,37 +35,37 @@ pub run_long : (xs : List Cell) (i n : ℕ) → i + n ≤ length xs → length (
 run_long xs i n h = length-take-le n (drop i xs) (omega (arith, length-drop i xs))
 
 module _ (p : Paper) (i n : ℕ) where
-  pub struck-words : (a : ℕ) → payload_words (entry_of p (strikes a i n)) ≡ cells_written (take n (drop i p.cells))
+  pub struck_words : (a : ℕ) → payload_words (entry_of p (strikes a i n)) ≡ cells_written (take n (drop i p.cells))
   unfolding entry_of payload_words
-  struck-words a = refl
+  struck_words a = refl
 
-  pub styled-words : (s : ℕ) → payload_words (entry_of p (styles i n s)) ≡ cells_written (take n (drop i p.cells))
+  pub styled_words : (s : ℕ) → payload_words (entry_of p (styles i n s)) ≡ cells_written (take n (drop i p.cells))
   unfolding entry_of payload_words
-  styled-words s = refl
+  styled_words s = refl
 
 module _ (p : Paper) (i n : ℕ) (h : i + n ≤ length p.cells) where
-  pub struck-counts : (a : ℕ) → 1 + n ≡ counts (entry_of p (strikes a i n))
+  pub struck_counts : (a : ℕ) → 1 + n ≡ counts (entry_of p (strikes a i n))
   unfolding entry_of much_of
-  struck-counts a = omega (arith, run_long p.cells i n h)
+  struck_counts a = omega (arith, run_long p.cells i n h)
 
-  pub styled-counts : (s : ℕ) → 1 + n ≡ counts (entry_of p (styles i n s))
+  pub styled_counts : (s : ℕ) → 1 + n ≡ counts (entry_of p (styles i n s))
   unfolding entry_of much_of
-  styled-counts s = omega (arith, run_long p.cells i n h)
+  styled_counts s = omega (arith, run_long p.cells i n h)
 
-  pub struck-head : (a k : ℕ) → k ≡ staying (take n (drop i p.cells)) p.changes a →
+  pub struck_head : (a k : ℕ) → k ≡ staying (take n (drop i p.cells)) p.changes a →
       record { size = 8 + 4 * n; count = 1 + n; kind = Strike; who = a; place = i; standing = k; style = 0 } ≡ head_of (entry_of p (strikes a i n))
   unfolding entry_of head_of payload_words much_of
-  struck-head a k e =
+  struck_head a k e =
       let old : List Cell = take n (drop i p.cells) in
       let l = run_long p.cells i n h in
       let size : 8 + 4 * n ≡ 8 + length (cells_written old) = omega (arith, length_cells_written old) in
       let one : 1 + n ≡ suc (length old) = omega arith in
       cc
 
-  pub styled-head : (s : ℕ) →
+  pub styled_head : (s : ℕ) →
       record { size = 8 + 4 * n; count = 1 + n; kind = Style; who = 0; place = i; standing = n; style = s } ≡ head_of (entry_of p (styles i n s))
   unfolding entry_of head_of payload_words much_of
-  styled-head s =
+  styled_head s =
       let old : List Cell = take n (drop i p.cells) in
       let l = run_long p.cells i n h in
       let size : 8 + 4 * n ≡ 8 + length (cells_written old) = omega (arith, length_cells_written old) in
@@ -74,25 +74,25 @@ module _ (p : Paper) (i n : ℕ) (h : i + n ≤ length p.cells) where
 
 -- marks
 module _ (p : Paper) (c : ℕ) where
-  pub decided-words : (o : Outcome) → payload_words (entry_of p (decided o c)) ≡ marks_written (marks_of p.cells c 0)
+  pub decided_words : (o : Outcome) → payload_words (entry_of p (decided o c)) ≡ marks_written (marks_of p.cells c 0)
   unfolding entry_of payload_words
-  decided-words Accepted = refl
-  decided-words Rejected = refl
+  decided_words Accepted = refl
+  decided_words Rejected = refl
 
-  pub decided-counts : (o : Outcome) (n : ℕ) → n ≡ touched p.cells c → 1 + n ≡ counts (entry_of p (decided o c))
+  pub decided_counts : (o : Outcome) (n : ℕ) → n ≡ touched p.cells c → 1 + n ≡ counts (entry_of p (decided o c))
   unfolding entry_of much_of
-  decided-counts Accepted n e = omega (arith, length_marks p.cells c 0)
-  decided-counts Rejected n e = omega (arith, length_marks p.cells c 0)
+  decided_counts Accepted n e = omega (arith, length_marks p.cells c 0)
+  decided_counts Rejected n e = omega (arith, length_marks p.cells c 0)
 
-  pub decided-head : (o : Outcome) (n : ℕ) (k : Kind) → n ≡ touched p.cells c → k ≡ kind_of o →
+  pub decided_head : (o : Outcome) (n : ℕ) (k : Kind) → n ≡ touched p.cells c → k ≡ kind_of o →
       record { size = 8 + 5 * n; count = 1 + n; kind = k; who = c; place = 0; standing = 0; style = 0 } ≡ head_of (entry_of p (decided o c))
   unfolding entry_of head_of payload_words much_of
-  decided-head Accepted n k e f =
+  decided_head Accepted n k e f =
       let l = length_marks p.cells c 0 in
       let size : 8 + 5 * n ≡ 8 + length (marks_written (marks_of p.cells c 0)) = omega (arith, length_marks_written (marks_of p.cells c 0)) in
       let one : 1 + n ≡ suc (length (marks_of p.cells c 0)) = omega arith in
       cc
-  decided-head Rejected n k e f =
+  decided_head Rejected n k e f =
       let l = length_marks p.cells c 0 in
       let size : 8 + 5 * n ≡ 8 + length (marks_written (marks_of p.cells c 0)) = omega (arith, length_marks_written (marks_of p.cells c 0)) in
       let one : 1 + n ≡ suc (length (marks_of p.cells c 0)) = omega arith in

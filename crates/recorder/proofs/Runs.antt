@@ -15,7 +15,7 @@ use Rattle.history.proofs.Logging.{length_cells_written}
 use Rattle.history.proofs.Heads.{cells_stand}
 use Rattle.recorder.specs.Records.{Stretched, written_at}
 use Rattle.recorder.proofs.Entries.{run_long}
-use Rattle.recorder.proofs.Splices.{between-written, written_more}
+use Rattle.recorder.proofs.Splices.{between_written, written_more}
 
 -- four words in a row
 pub cell_set : (u : List ℕ) (i : ℕ) (x : code.Cell) → i + 4 ≤ length u →
@@ -37,18 +37,18 @@ cells_written_append (x ∷ xs) ys = ap (λ ws. x.letter ∷ (x.style ∷ (x.put
 pub cells_join :
     (u v w : List ℕ) (to k : ℕ) (xs ys : List Cell) → v ≡ written_at u to (cells_written xs) → w ≡ written_at v k (cells_written ys) →
     k ≡ to + 4 * length xs → to + 4 * length xs ≤ length u → w ≡ written_at u to (cells_written (xs ++ ys))
-cells_join u v w to k xs ys is-v is-w e h =
+cells_join u v w to k xs ys is-v is_w e h =
     let l = length_cells_written xs in
-    is-w ∙ ap (λ x. written_at x k (cells_written ys)) is-v ∙ written_more u to (cells_written xs) (omega arith) (cells_written ys) k (omega arith)
+    is_w ∙ ap (λ x. written_at x k (cells_written ys)) is-v ∙ written_more u to (cells_written xs) (omega arith) (cells_written ys) k (omega arith)
     ∙ ap (written_at u to) (sym (cells_written_append xs ys))
 
 pub copied_more :
     (u v w c : List ℕ) (to from i : ℕ) (x : Cell) → x ≡ cell_at c (from + i) → v ≡ written_at u to (cells_written (cells_at c from i)) →
     w ≡ written_at v (to + 4 * i) (cells_written (x ∷ [])) → to + 4 * i ≤ length u → w ≡ written_at u to (cells_written (cells_at c from (i + 1)))
-copied_more u v w c to from i x is is-v is-w h =
+copied_more u v w c to from i x is is-v is_w h =
     let l = length_cells c from i in
     let both : cells_at c from i ++ (x ∷ []) ≡ cells_at c from (i + 1) = ap (λ y. cells_at c from i ++ (y ∷ [])) is ∙ sym (cells_more c from i) in
-    cells_join u v w to (to + 4 * i) (cells_at c from i) (x ∷ []) is-v is-w (omega arith) (omega arith) ∙ ap (λ xs. written_at u to (cells_written xs)) both
+    cells_join u v w to (to + 4 * i) (cells_at c from i) (x ∷ []) is-v is_w (omega arith) (omega arith) ∙ ap (λ xs. written_at u to (cells_written xs)) both
 
 -- there are not many cells
 pub before_small : (p : List ℕ) (s : ℕ) → Order p s → (k : ℕ) → k ≤ s → before p k ≤ 1024 * k
@@ -93,14 +93,14 @@ pub run_more :
     (u v w c p : List ℕ) (s to place n done from count : ℕ) → Stretched c p s (place + done) (n - done) from count → place + n ≤ length (cells_of c p s) → to + 4 * n ≤ length u →
     done < n → v ≡ written_at u to (cells_written (take done (drop place (cells_of c p s)))) → w ≡ written_at v (to + 4 * done) (cells_written (cells_at c from count)) →
     w ≡ written_at u to (cells_written (take (done + count) (drop place (cells_of c p s))))
-run_more u v w c p s to place n done from count f h room less is-v is-w =
+run_more u v w c p s to place n done from count f h room less is-v is_w =
     let t = drop place (cells_of c p s) in
     let lt = length-drop place (cells_of c p s) in
     let l = length-take-le done t (omega arith) in
     let d : drop done t ≡ drop (place + done) (cells_of c p s) = drop-drop done place (cells_of c p s) in
     let both : take done t ++ cells_at c from count ≡ take (done + count) t =
     ap (λ xs. take done t ++ xs) (sym f.cells ∙ ap (take count) (sym d)) ∙ sym (take-add done count t) in
-    cells_join u v w to (to + 4 * done) (take done t) (cells_at c from count) is-v is-w (omega arith) (omega arith) ∙ ap (λ xs. written_at u to (cells_written xs)) both
+    cells_join u v w to (to + 4 * done) (take done t) (cells_at c from count) is-v is_w (omega arith) (omega arith) ∙ ap (λ xs. written_at u to (cells_written xs)) both
 
 -- how many stay
 staying_append : (xs ys : List Cell) (cs : List Change) (a : ℕ) → staying (xs ++ ys) cs a ≡ staying xs cs a + staying ys cs a
@@ -122,15 +122,15 @@ staying_more u to i xs cs a b h l is =
     ∙ ap (λ n. staying (take i xs) cs a + n) (add-zero (pick (eqb (author_of cs x.put_in) (suc a)) 0 1) ∙ ap (λ t. pick {A = ℕ} t 0 1) t)
 
 module _ (u : List ℕ) (to i : ℕ) (xs : List Cell) (cs : List Change) (a : ℕ) (b : Bool) (n : ℕ) where
-  pub staying-with :
+  pub staying_with :
       between to (to + length (cells_written xs)) u ≡ cells_written xs → i < length xs → b ≡ eqb (author_of cs (get_or u (to + 4 * i + 2) 0)) (suc a) → b ≡ false →
       n ≡ staying (take i xs) cs a → n + 1 ≡ staying (take (i + 1) xs) cs a
-  staying-with h l is f e = let m = staying_more u to i xs cs a b h l is in let o = ap (λ t. pick {A = ℕ} t 0 1) f in omega arith
+  staying_with h l is f e = let m = staying_more u to i xs cs a b h l is in let o = ap (λ t. pick {A = ℕ} t 0 1) f in omega arith
 
-  pub staying-without :
+  pub staying_without :
       between to (to + length (cells_written xs)) u ≡ cells_written xs → i < length xs → b ≡ eqb (author_of cs (get_or u (to + 4 * i + 2) 0)) (suc a) → b ≡ true →
       n ≡ staying (take i xs) cs a → n ≡ staying (take (i + 1) xs) cs a
-  staying-without h l is f e = let m = staying_more u to i xs cs a b h l is in let o = ap (λ t. pick {A = ℕ} t 0 1) f in omega arith
+  staying_without h l is f e = let m = staying_more u to i xs cs a b h l is in let o = ap (λ t. pick {A = ℕ} t 0 1) f in omega arith
 
 -- of the cells that were copied
 pub copied_stay :
@@ -141,4 +141,4 @@ copied_stay free new to place n cells cs a r h room is counts =
     let xs : List Cell = take n (drop place cells) in
     let l : length xs ≡ n = run_long cells place n h in
     let m = length_cells_written xs in
-    counts xs l (ap (between to (to + length (cells_written xs))) is ∙ between-written free to (cells_written xs) (omega arith))
+    counts xs l (ap (between to (to + length (cells_written xs))) is ∙ between_written free to (cells_written xs) (omega arith))

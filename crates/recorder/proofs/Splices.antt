@@ -13,26 +13,26 @@ module _ (u : List ℕ) (a : ℕ) (ws : List ℕ) (fits : a + length ws ≤ leng
       let r = drop (a + length ws) u in
       omega (arith, length-append (take a u) (ws ++ r), length-append ws r, length-drop (a + length ws) u, front)
 
-  pub take-written : take a (written_at u a ws) ≡ take a u
-  take-written = take_at (take a u) (ws ++ drop (a + length ws) u) a front
+  pub take_written : take a (written_at u a ws) ≡ take a u
+  take_written = take_at (take a u) (ws ++ drop (a + length ws) u) a front
 
-  pub between-written : between a (a + length ws) (written_at u a ws) ≡ ws
-  between-written =
+  pub between_written : between a (a + length ws) (written_at u a ws) ≡ ws
+  between_written =
       let r = drop (a + length ws) u in
       let n : a + length ws - a ≡ length ws = omega arith in
       ap (λ x. take x (drop a (written_at u a ws))) n ∙ ap (take (length ws)) (drop_at (take a u) (ws ++ r) a front) ∙ take_at ws r (length ws) (omega arith)
 
-  end-written : drop (a + length ws) (written_at u a ws) ≡ drop (a + length ws) u
-  end-written =
+  end_written : drop (a + length ws) (written_at u a ws) ≡ drop (a + length ws) u
+  end_written =
       let r = drop (a + length ws) u in
       let n : length (take a u ++ ws) ≡ a + length ws = omega (arith, length-append (take a u) ws, front) in
       ap (drop (a + length ws)) (sym (append_assoc (take a u) ws r)) ∙ drop_at (take a u ++ ws) r (a + length ws) n
 
-  pub drop-written : (n : ℕ) → a + length ws ≤ n → drop n (written_at u a ws) ≡ drop n u
-  drop-written n h =
+  pub drop_written : (n : ℕ) → a + length ws ≤ n → drop n (written_at u a ws) ≡ drop n u
+  drop_written n h =
       let e : a + length ws + (n - (a + length ws)) ≡ n = omega arith in
       let m = n - (a + length ws) in
-      ap (λ x. drop x (written_at u a ws)) (sym e) ∙ sym (drop-drop m (a + length ws) (written_at u a ws)) ∙ ap (drop m) end-written
+      ap (λ x. drop x (written_at u a ws)) (sym e) ∙ sym (drop-drop m (a + length ws) (written_at u a ws)) ∙ ap (drop m) end_written
       ∙ drop-drop m (a + length ws) u ∙ ap (λ x. drop x u) e
 
   -- and more behind them
@@ -42,7 +42,7 @@ module _ (u : List ℕ) (a : ℕ) (ws : List ℕ) (fits : a + length ws ≤ leng
       let n : length (take a u ++ ws) ≡ a + length ws = omega (arith, length-append (take a u) ws, front) in
       let t : take (a + length ws) (written_at u a ws) ≡ take a u ++ ws =
       ap (take (a + length ws)) (sym (append_assoc (take a u) ws r)) ∙ take_at (take a u ++ ws) r (a + length ws) n in
-      let d : drop (a + length ws + length vs) (written_at u a ws) ≡ drop (a + length ws + length vs) u = drop-written (a + length ws + length vs) (omega arith) in
+      let d : drop (a + length ws + length vs) (written_at u a ws) ≡ drop (a + length ws + length vs) u = drop_written (a + length ws + length vs) (omega arith) in
       let k : a + length ws + length vs ≡ a + length (ws ++ vs) = omega (arith, length-append ws vs) in
       let a0 = append_assoc (take a u) ws (vs ++ drop (a + length (ws ++ vs)) u) in
       let a1 = append_assoc ws vs (drop (a + length (ws ++ vs)) u) in

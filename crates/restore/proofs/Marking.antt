@@ -96,10 +96,10 @@ module _ (went : Cell → Bool) (ws : List ℕ) (from n i : ℕ) (c p d q : List
   next : CanMark went (first_mark (drop (from + 5 * i) ws) ∷ marks_from ws from n (i + 1)) (cells_of d q s) s
   next = subst (λ ms. CanMark went ms (cells_of d q s) s) (marks_next ws from n i l) h.can
 
-  pub going-place :
+  pub going_place :
       ((first_mark (drop (from + 5 * i) ws)).place + pick (went (first_mark (drop (from + 5 * i) ws)).cell) 0 1 ≤ length (cells_of d q s))
       × (length (cells_of d q s) + pick (went (first_mark (drop (from + 5 * i) ws)).cell) 1 0 ≤ 768 * (s - 1))
-  going-place = first_placed went (first_mark (drop (from + 5 * i) ws)) (marks_from ws from n (i + 1)) (cells_of d q s) s next
+  going_place = first_placed went (first_mark (drop (from + 5 * i) ws)) (marks_from ws from n (i + 1)) (cells_of d q s) s next
 
   pub going_more : (e r : List ℕ)
       → Edited d q e r s (mark_back (went (first_mark (drop (from + 5 * i) ws)).cell) (first_mark (drop (from + 5 * i) ws)) (cells_of d q s))

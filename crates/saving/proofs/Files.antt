@@ -83,8 +83,8 @@ module _ (w : List ℕ) (row : ℕ) (long : 2 * row ≤ length w) where
   length_head = let e = ap length head_words in let t = length-take-le (2 * row) w long in omega arith
 
   -- from a number on that is not the first
-  pub head-from : (from n : ℕ) → 0 < from → (n ≡ 0 → ⊥) → n ≤ 1 + 2 * row - from → take n (drop (from - 1) w) ≡ take n (drop from (head (changes_of w row)))
-  head-from from n z nz h =
+  pub head_from : (from n : ℕ) → 0 < from → (n ≡ 0 → ⊥) → n ≤ 1 + 2 * row - from → take n (drop (from - 1) w) ≡ take n (drop from (head (changes_of w row)))
+  head_from from n z nz h =
       let e : from ≡ suc (from - 1) = omega arith in
       let r = run_within (from - 1) n (2 * row) w (omega arith) in
       let s : take n (drop (suc (from - 1)) (row ∷ take (2 * row) w)) ≡ take n (drop (from - 1) (take (2 * row) w)) = refl in
@@ -114,28 +114,28 @@ module _ (c p : List ℕ) (s : ℕ) (h : Store c p s) where
   abbrev all : List ℕ
   all = cells_written (cells_of c p s)
 
-  pub length-all : length all ≡ 4 * before p s
-  length-all = let l = length_cells_written (cells_of c p s) in let t = length_text c p s in omega arith
+  pub length_all : length all ≡ 4 * before p s
+  length_all = let l = length_cells_written (cells_of c p s) in let t = length_text c p s in omega arith
 
   module _ (k : ℕ) (here : k < s) where
-    pub piece-room : 4 * number p k 0 + 4 * used p k ≤ length c
-    piece-room =
+    pub piece_room : 4 * number p k 0 + 4 * used p k ≤ length c
+    piece_room =
         let o = h.table.order in
         let i = o.inside k here in
         let u = o.small k here in
         let r = h.room in
         omega arith
 
-    piece-words : cells_written (piece c p k) ≡ take (4 * used p k) (drop (4 * number p k 0) c)
+    piece_words : cells_written (piece c p k) ≡ take (4 * used p k) (drop (4 * number p k 0) c)
     unfolding piece
-    piece-words =
-        let r = piece-room in
+    piece_words =
+        let r = piece_room in
         let z : number p k 0 ≡ 1024 * slot p k = omega arith in
         rw z (cells_words c (1024 * slot p k) (used p k) (omega arith))
 
     -- the numbers from the piece on
-    from-piece : drop (4 * before p k) all ≡ cells_written (piece c p k) ++ cells_written (strung (piece c p) (suc k) (s - suc k))
-    from-piece =
+    from_piece : drop (4 * before p k) all ≡ cells_written (piece c p k) ++ cells_written (strung (piece c p) (suc k) (s - suc k))
+    from_piece =
         let b = before_within p s k here in
         let t = length_text c p s in
         let d = drop_cells_written (before p k) (cells_of c p s) (omega arith) in
@@ -146,29 +146,29 @@ module _ (c p : List ℕ) (s : ℕ) (h : Store c p s) where
     pub piece_run : (first m next : ℕ) → first + m ≤ 4 * used p k → 4 * before p k + first ≡ next → take m (drop (4 * number p k 0 + first) c) ≡ take m (drop next all)
     piece_run first m next l e =
         let a = drop-drop first (4 * before p k) all in
-        let b = from-piece in
+        let b = from_piece in
         let n = length_cells_written (piece c p k) in
         let u = length_piece c p k in
         let d = drop-append-le first (cells_written (piece c p k)) (cells_written (strung (piece c p) (suc k) (s - suc k))) (omega arith) in
         let v = length-drop first (cells_written (piece c p k)) in
         let t = take-append-le m (drop first (cells_written (piece c p k))) (cells_written (strung (piece c p) (suc k) (s - suc k))) (omega arith) in
-        let w = piece-words in
+        let w = piece_words in
         let r = run_within first m (4 * used p k) (drop (4 * number p k 0) c) l in
         let x = drop-drop first (4 * number p k 0) c in
         cc
 
 -- the whole file
 module _ (c p : List ℕ) (s : ℕ) (w : List ℕ) (row : ℕ) (long : 2 * row ≤ length w) where
-  length-file : length (file c p s w row) ≡ 1 + 2 * row + 4 * before p s
-  length-file =
+  length_file : length (file c p s w row) ≡ 1 + 2 * row + 4 * before p s
+  length_file =
       let a = length-append (head (changes_of w row)) (cells_written (cells_of c p s)) in
       let b = length_head w row long in
       let l = length_cells_written (cells_of c p s) in
       let t = length_text c p s in
       omega arith
 
-  pub saves-none : (from n : ℕ) (out : List ℕ) → 1 + 2 * row + 4 * before p s < from + n → SavesNone (file c p s w row) from n out out
-  saves-none from n out h = let l = length-file in record { short = omega arith; same = refl }
+  pub saves_none : (from n : ℕ) (out : List ℕ) → 1 + 2 * row + 4 * before p s < from + n → SavesNone (file c p s w row) from n out out
+  saves_none from n out h = let l = length_file in record { short = omega arith; same = refl }
 
   module _ (from n first place : ℕ) (out o₁ o₂ o₃ : List ℕ) (a₁ a₂ a₃ : ℕ) (fits : from + n ≤ 1 + 2 * row + 4 * before p s) (room : 5 + 4 * n ≤ length out)
       (part : first ≡ min n (1 + 2 * row - from)) (rest : place ≡ from - (1 + 2 * row))
@@ -191,8 +191,8 @@ module _ (c p : List ℕ) (s : ℕ) (w : List ℕ) (row : ℕ) (long : 2 * row �
         let q : from - length (head (changes_of w row)) ≡ place = omega arith in
         rw q at (run_two (head (changes_of w row)) (cells_written (cells_of c p s)) from n first e)
 
-    length-mine : length mine ≡ n
-    length-mine = let l = length-file in let d = length-drop from (file c p s w row) in length-take-le n (drop from (file c p s w row)) (omega arith)
+    length_mine : length mine ≡ n
+    length_mine = let l = length_file in let d = length-drop from (file c p s w row) in length-take-le n (drop from (file c p s w row)) (omega arith)
 
     length_front : length front ≡ first
     length_front =
@@ -205,23 +205,23 @@ module _ (c p : List ℕ) (s : ℕ) (w : List ℕ) (row : ℕ) (long : 2 * row �
     answer =
         let b = words_bytes_both front back in
         let a = append_assoc (4 ∷ word_bytes n) (words_bytes front) (words_bytes back) in
-        let l = length-mine in
+        let l = length_mine in
         let q = parts in
-        let e : answer_bytes (numbers mine) ≡ (4 ∷ word_bytes n) ++ words_bytes (front ++ back) = rw (length-mine, parts) refl in
+        let e : answer_bytes (numbers mine) ≡ (4 ∷ word_bytes n) ++ words_bytes (front ++ back) = rw (length_mine, parts) refl in
         cc
 
-    length-answer : length (answer_bytes (numbers mine)) ≡ 5 + 4 * n
+    length_answer : length (answer_bytes (numbers mine)) ≡ 5 + 4 * n
     unfolding answer_bytes
-    length-answer =
+    length_answer =
         let l = length-append (word_bytes (length mine)) (words_bytes mine) in
         let b = length_words_bytes mine in
-        let m = length-mine in
+        let m = length_mine in
         let v = length_word (length mine) in
         omega arith
 
     pub saves : Saves (file c p s w row) from n out o₃ a₃
     saves =
-        let l = length-file in
+        let l = length_file in
         let f = length_front in
         let v = length_word n in
         let b = length_words_bytes front in
@@ -230,6 +230,6 @@ module _ (c p : List ℕ) (s : ℕ) (w : List ℕ) (row : ℕ) (long : 2 * row �
         let s₃ = over_step out 0 ((4 ∷ word_bytes n) ++ words_bytes front) (words_bytes back) s₂ (omega arith) (omega arith) w₃ in
         let e = over_start out (((4 ∷ word_bytes n) ++ words_bytes front) ++ words_bytes back) in
         let a = answer in
-        let g = length-answer in
+        let g = length_answer in
         let k : a₃ ≡ length (answer_bytes (numbers mine)) = omega arith in
         record { there = omega arith; bytes = cc; long = k }

@@ -4,7 +4,7 @@ use Rattle.std.proofs.lemmas.Bool.{cases_lt}
 use Rattle.std.proofs.lemmas.List.{append_assoc, append-nil, length-drop, length-take-le, take_all, take-append-drop, take-append-le, take_more, take-take, drop_all, drop-append-le, drop-drop, drop-take, get_or-drop}
 use Rattle.codec.specs.Bytes.{word_bytes, words_bytes}
 use Rattle.codec.specs.Over.{over}
-use Rattle.codec.proofs.Writes.{over-more, over_nothing, length_words_bytes, words_step}
+use Rattle.codec.proofs.Writes.{over_more, over_nothing, length_words_bytes, words_step}
 
 -- a run of words within the first l of them
 pub run_within : (m n l : ℕ) (w : List ℕ) → m + n ≤ l → take n (drop m (take l w)) ≡ take n (drop m w)
@@ -102,7 +102,7 @@ writing_more ns o a i n o' a' j l h m s t o'' a'' f p r =
     let d = length-drop j ns in
     let k = length-take-le m (drop j ns) (omega arith) in
     let b = length_words_bytes (take m (drop j ns)) in
-    let v = over-more o' a' (words_bytes (take m (drop j ns))) a'' (omega arith) r (words_bytes (take (l - m) (drop (j + m) ns))) in
+    let v = over_more o' a' (words_bytes (take m (drop j ns))) a'' (omega arith) r (words_bytes (take (l - m) (drop (j + m) ns))) in
     let w = words_bytes_both (take m (drop j ns)) (take (l - m) (drop (j + m) ns)) in
     let x = run_split m l j ns s in
     let y = h.bytes in

@@ -24,8 +24,8 @@ module _ (c p : List ℕ) (s way from : ℕ) (ls : List ℕ) where
   abbrev all : List Cell
   all = view way (cells_of c p s)
 
-  pub sought-start : 0 < length ls → Sought c p s way from ls 0 0 0 0
-  sought-start h =
+  pub sought_start : 0 < length ls → Sought c p s way from ls 0 0 0 0
+  sought_start h =
       let z : 0 - from ≡ 0 = omega arith in
       record {
         rest = left_all c p s way;
@@ -39,19 +39,19 @@ module _ (c p : List ℕ) (s way from : ℕ) (ls : List ℕ) where
   sought_same k j k' j' place matched e h = record { rest = sym e ∙ h.rest; within = h.within; seeking = h.seeking }
 
   -- nothing is left
-  pub sought-none : (k j place matched : ℕ) → k ≡ s → Sought c p s way from ls k j place matched → find_in all ls from 0 ≡ 0
-  sought-none k j place matched e h =
+  pub sought_none : (k j place matched : ℕ) → k ≡ s → Sought c p s way from ls k j place matched → find_in all ls from 0 ≡ 0
+  sought_none k j place matched e h =
       let l = ap length (sym (left_end c p s way k j e) ∙ h.rest) in
       let d = length-drop place all in
       seeking_all all ls from (place - from) matched (omega arith) h.seeking
 
-  pub all-few : Order p s → length all ≤ 2097152
-  all-few o = let f = left_few c p s way 0 0 o in let a = ap length (left_all c p s way) in omega arith
+  pub all_few : Order p s → length all ≤ 2097152
+  all_few o = let f = left_few c p s way 0 0 o in let a = ap length (left_all c p s way) in omega arith
 
   -- one cell that is seen further
   module _ (k j place matched : ℕ) (x : Cell) (h : Sought c p s way from ls k j place matched) (next : left c p s way k j ≡ x ∷ left c p s way k (j + 1)) where
-    pub sought-inside : place < length all
-    sought-inside = let l = ap length (sym next ∙ h.rest) in let d = length-drop place all in omega arith
+    pub sought_inside : place < length all
+    sought_inside = let l = ap length (sym next ∙ h.rest) in let d = length-drop place all in omega arith
 
     after : left c p s way k (j + 1) ≡ drop (place + 1) all
     after = ap (drop 1) (sym next ∙ h.rest) ∙ drop-drop 1 place all
@@ -68,9 +68,9 @@ module _ (c p : List ℕ) (s way from : ℕ) (ls : List ℕ) where
         cc
 
     -- before `from`
-    pub sought-pass : place < from → Sought c p s way from ls k (j + 1) (place + 1) matched
-    sought-pass l =
-        let i = sought-inside in
+    pub sought_pass : place < from → Sought c p s way from ls k (j + 1) (place + 1) matched
+    sought_pass l =
+        let i = sought_inside in
         let n : place - from ≡ place + 1 - from = omega arith in
         record { rest = after; within = omega arith; seeking = subst (λ m. Seeking ls (letters (drop from all)) m matched) n h.seeking }
 
@@ -78,20 +78,20 @@ module _ (c p : List ℕ) (s way from : ℕ) (ls : List ℕ) where
       steps_on : Step ls matched (get_or (letters (drop from all)) (place - from) 0) r
       steps_on = subst (λ y. Step ls matched y r) (sym (letter o)) steps
 
-      pub sought-more : (r ≡ length ls → ⊥) → Sought c p s way from ls k (j + 1) (place + 1) r
-      sought-more ne =
-          let i = sought-inside in
+      pub sought_more : (r ≡ length ls → ⊥) → Sought c p s way from ls k (j + 1) (place + 1) r
+      sought_more ne =
+          let i = sought_inside in
           let n : place - from + 1 ≡ place + 1 - from = omega arith in
           let l : place - from < length (letters (drop from all)) = omega (arith, letters_length (drop from all), length-drop from all) in
           record { rest = after; within = omega arith; seeking = subst (λ m. Seeking ls (letters (drop from all)) m r) n (seeking_more l steps_on ne h.seeking) }
 
       -- no more match than were passed
-      pub sought-read : r ≤ place + 1
-      sought-read = let m = seeking_read steps_on h.seeking in omega arith
+      pub sought_read : r ≤ place + 1
+      sought_read = let m = seeking_read steps_on h.seeking in omega arith
 
-      pub sought-full : r ≡ length ls → place + 2 - r ≡ find_in all ls from 0
-      sought-full e =
-          let i = sought-inside in
-          let m = sought-read in
+      pub sought_full : r ≡ length ls → place + 2 - r ≡ find_in all ls from 0
+      sought_full e =
+          let i = sought_inside in
+          let m = sought_read in
           let f = seeking_full all ls from (place - from) matched r (omega arith) steps_on e h.seeking in
           omega arith

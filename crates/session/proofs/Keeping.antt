@@ -111,8 +111,8 @@ record Next (e : Keeper) (l : Limits) (m : Memory) (d : Desk) (c : Call) : Type 
   kept : 0 < turned (staged l) d c → e.next m c ≡ m
 
 module _ (back : ReadsBack) (one : OneAnswer) (e : Keeper) (meets : Meets e) (l : Limits) where
-  next-at : (m : Memory) (d : Desk) (c : Call) → readable c ≡ true → At l m d → Next e l m d c
-  next-at m d c h x =
+  next_at : (m : Memory) (d : Desk) (c : Call) → readable c ≡ true → At l m d → Next e l m d c
+  next_at m d c h x =
       let cs : List ℕ = x.cells in
       let ps : List ℕ = x.pieces in
       let us : List ℕ = x.undo in
@@ -152,14 +152,14 @@ module _ (back : ReadsBack) (one : OneAnswer) (e : Keeper) (meets : Meets e) (l 
   unfolding told_by answers all_readable
   told m d [] h x = refl
   told m d (c ∷ cs) h x =
-      let n : Next e l m d c = next-at m d c (both_left (readable c) (all_readable cs) h) x in
+      let n : Next e l m d c = next_at m d c (both_left (readable c) (all_readable cs) h) x in
       ap₂ ◌∷◌ n.says (told (e.next m c) (after (staged l) d c) cs (both_right (readable c) (all_readable cs) h) n.at)
 
   left_at : (m : Memory) (d : Desk) (cs : List Call) → all_readable cs ≡ true → At l m d → At l (left_by e m cs) (ran (staged l) d cs)
   unfolding left_by ran all_readable
   left_at m d [] h x = x
   left_at m d (c ∷ cs) h x =
-      let n : Next e l m d c = next-at m d c (both_left (readable c) (all_readable cs) h) x in
+      let n : Next e l m d c = next_at m d c (both_left (readable c) (all_readable cs) h) x in
       left_at (e.next m c) (after (staged l) d c) cs (both_right (readable c) (all_readable cs) h) n.at
 
 -- memory is within its bound
@@ -188,5 +188,5 @@ main_promise back one e meets = (
       let parts : (all_readable cs ≡ true) × (readable c ≡ true) = readable_last cs c h in
       let x : At l (left_by e (e.opens l) cs) (ran (staged l) new_desk cs) = left_at back one e meets l (e.opens l) new_desk cs parts.0 (opened_at e meets l good) in
       let t' : 0 < turned (staged l) (ran (staged l) new_desk cs) c = subst (λ (n : Limits). 0 < turned n (ran n new_desk cs) c) (sym same) t in
-      (next-at back one e meets l (left_by e (e.opens l) cs) (ran (staged l) new_desk cs) c parts.1 x).kept t',
+      (next_at back one e meets l (left_by e (e.opens l) cs) (ran (staged l) new_desk cs) c parts.1 x).kept t',
 )

@@ -52,9 +52,9 @@ module _ (cs ps : List ℕ) (k w r n : ℕ) (held : Held cs ps) (good : good_fie
       let gone : turned_by (desk_of cs ps) (show k w r n) ≡ 8 = rw (lt-leb (r + n) (length all) h) refl in
       refuses cs ps (show k w r n) 7 held (turned_first (limits_of ps) (desk_of cs ps) (show k w r n) 7 good gone)
 
-  pub show-range : (k < 3) × (1 ≤ w) × (w ≤ 256) × (n ≤ 64)
+  pub show_range : (k < 3) × (1 ≤ w) × (w ≤ 256) × (n ≤ 64)
   unfolding good_fields
-  show-range =
+  show_range =
       let a = both_true (ltb k 3) ((leb 1 w && leb w 256) && (leb 1 n && leb n 64)) good in
       let b = both_true (leb 1 w && leb w 256) (leb 1 n && leb n 64) a.1 in
       let c = both_true (leb 1 w) (leb w 256) b.0 in

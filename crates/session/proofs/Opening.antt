@@ -6,7 +6,7 @@ use Rattle.std.proofs.lemmas.List.{length-append, length-replicate, length-drop,
 use Rattle.model.specs.Calls.{new_desk}
 use Rattle.changes.specs.Row.{changes_from}
 use Rattle.pieces.specs.Store.{Store, cells_of, cleared_words}
-use Rattle.pieces.proofs.Cleared.{cleared-long}
+use Rattle.pieces.proofs.Cleared.{cleared_long}
 use Rattle.session.specs.Contract.{good_limits, enough}
 use Rattle.session.specs.Memory.{undo_words, slots_for, cells_words, pieces_words, tables, Stands, opened_pieces}
 
@@ -57,12 +57,12 @@ module _ (n c u : ℕ) (ps begun-words after-tables : List ℕ)
       let b = append_assoc (head n c u) (range_with_len 0 s ++ replicate (10240 - s) 0) (drop (10256 + 2 * c) ps) in
       words_are ∙ (ap (λ (xs : List ℕ). head n c u ++ xs) (t ∙ sym a) ∙ sym b)
 
-  cleared-length : n ≤ 1000000 → pieces_words c ≤ length ps → length after-tables ≡ length ps - (16 + 2 * c)
-  cleared-length small_n long-ps =
+  cleared_length : n ≤ 1000000 → pieces_words c ≤ length ps → length after-tables ≡ length ps - (16 + 2 * c)
+  cleared_length small_n long-ps =
       let h = length_head n c u in
       let d : drop (16 + 2 * c) begun-words ≡ drop (16 + 2 * c) ps = ap (drop (16 + 2 * c)) begins ∙ drop_at (head n c u) (drop (16 + 2 * c) ps) (16 + 2 * c) h in
       let l : length (drop (16 + 2 * c) begun-words) ≡ length ps - (16 + 2 * c) = ap length d ∙ length-drop (16 + 2 * c) ps in
-      ap length clears ∙ (cleared-long (drop (16 + 2 * c) begun-words) (slots_for n) (omega arith) (omega arith) ∙ l)
+      ap length clears ∙ (cleared_long (drop (16 + 2 * c) begun-words) (slots_for n) (omega arith) (omega arith) ∙ l)
 
   pub stands : (cs us : List ℕ) → n ≤ 1000000 → c ≤ 65536 → u ≤ 1000000 → cells_words n ≤ length cs → pieces_words c ≤ length ps →
       Store cs after-tables (slots_for n) → cells_of cs after-tables (slots_for n) ≡ [] → Stands cs words us new_desk
@@ -81,7 +81,7 @@ module _ (n c u : ℕ) (ps begun-words after-tables : List ℕ)
       let w : length words ≡ length (head n c u) + length after-tables = ap length is ∙ length-append (head n c u) after-tables in
       let st : Store cs (tables words) (slots_for (get_or words 0 0)) = rw (t, s) store in
       let none : cells_of cs (tables words) (slots_for (get_or words 0 0)) ≡ [] = rw (t, s) empty in
-      let long : length after-tables ≡ length ps - (16 + 2 * c) = cleared-length small_n long-ps in
+      let long : length after-tables ≡ length ps - (16 + 2 * c) = cleared_length small_n long-ps in
       record {
         sound = record {
           held = record {

@@ -34,55 +34,55 @@ still {cs} {ps} {cs'} {ps'} w =
 
 -- The paper has n cells.
 module _ {cs ps : List ℕ} (held : Held cs ps) {n : ℕ} (counts : n ≡ before (tables ps) (slots_of ps)) where
-  pub cells-counted : length (paper_of cs ps).cells ≡ n
-  cells-counted = length_text cs (tables ps) (slots_of ps) ∙ sym counts
+  pub cells_counted : length (paper_of cs ps).cells ≡ n
+  cells_counted = length_text cs (tables ps) (slots_of ps) ∙ sym counts
 
-  pub put-room : (ls : List ℕ) → allows ps (n + length ls) ≡ true → (length (paper_of cs ps).cells + length ls ≤ get_or ps 0 0) × (get_or ps 3 0 < get_or ps 1 0)
-  put-room ls k =
+  pub put_room : (ls : List ℕ) → allows ps (n + length ls) ≡ true → (length (paper_of cs ps).cells + length ls ≤ get_or ps 0 0) × (get_or ps 3 0 < get_or ps 1 0)
+  put_room ls k =
       let e = both_true (leb (n + length ls) (get_or ps 0 0)) (ltb (get_or ps 3 0) (get_or ps 1 0)) k in
       let m : n + length ls ≤ get_or ps 0 0 = leb-true (n + length ls) (get_or ps 0 0) e.0 in
       let l : get_or ps 3 0 < get_or ps 1 0 = ltb-true (get_or ps 3 0) (get_or ps 1 0) e.1 in
-      (omega (arith, cells-counted), l)
+      (omega (arith, cells_counted), l)
 
 module _ {cs ps : List ℕ} (held : Held cs ps) {n : ℕ} (counts : n ≡ before (tables ps) (slots_of ps)) (a i s : ℕ) (ls : List ℕ) (good : good_fields (put a i s ls) ≡ true) where
-  good-put : good_call (limits_of ps) (put a i s ls) ≡ true
+  good_put : good_call (limits_of ps) (put a i s ls) ≡ true
   unfolding call_number
-  good-put = good
+  good_put = good
 
   not_there : leb i n ≡ false → turned_by (desk_of cs ps) (put a i s ls) ≡ 4
   unfolding turned_by
-  not_there h = rw (cells-counted held counts) (rw h refl)
+  not_there h = rw (cells_counted held counts) (rw h refl)
 
   there : leb i n ≡ true → turned_by (desk_of cs ps) (put a i s ls) ≡ 0
   unfolding turned_by
-  there h = rw (cells-counted held counts) (rw h refl)
+  there h = rw (cells_counted held counts) (rw h refl)
 
   fit : fits (limits_of ps) (rewritten (paper_of cs ps) (put a i s ls)) ≡ allows ps (n + length ls)
   unfolding rewritten
   fit =
       let x : length (rewritten (paper_of cs ps) (put a i s ls)).cells ≡ n + length ls =
-      inserted_length (paper_of cs ps).cells ls i s (length (paper_of cs ps).changes) ∙ ap (λ (m : ℕ). m + length ls) (cells-counted held counts) in
+      inserted_length (paper_of cs ps).cells ls i s (length (paper_of cs ps).changes) ∙ ap (λ (m : ℕ). m + length ls) (cells_counted held counts) in
       let y : length (rewritten (paper_of cs ps) (put a i s ls)).changes ≡ suc (get_or ps 3 0) =
       length-append (paper_of cs ps).changes (record { author = a; became = 0 } ∷ []) ∙ omega (arith, changes_counted cs ps) in
       ap₂ (λ (m k : ℕ). leb m (get_or ps 0 0) && leb k (get_or ps 1 0)) x y
 
-  pub put-nowhere : leb i n ≡ false → Acted cs ps (put a i s ls) cs ps (refused 4 1)
+  pub put_nowhere : leb i n ≡ false → Acted cs ps (put a i s ls) cs ps (refused 4 1)
   unfolding place
-  put-nowhere h = refuses cs ps (put a i s ls) 3 held (turned_first (limits_of ps) (desk_of cs ps) (put a i s ls) 3 good-put (not_there h))
+  put_nowhere h = refuses cs ps (put a i s ls) 3 held (turned_first (limits_of ps) (desk_of cs ps) (put a i s ls) 3 good_put (not_there h))
 
-  pub put-too-much : leb i n ≡ true → allows ps (n + length ls) ≡ false → Acted cs ps (put a i s ls) cs ps (refused 9 0)
+  pub put_too_much : leb i n ≡ true → allows ps (n + length ls) ≡ false → Acted cs ps (put a i s ls) cs ps (refused 9 0)
   unfolding place
-  put-too-much h k = refuses cs ps (put a i s ls) 8 held (turned_last (limits_of ps) (desk_of cs ps) (put a i s ls) good-put (there h) (fit ∙ k))
+  put_too_much h k = refuses cs ps (put a i s ls) 8 held (turned_last (limits_of ps) (desk_of cs ps) (put a i s ls) good_put (there h) (fit ∙ k))
 
-  pub put-done : {cs' ps' qs : List ℕ} {at m : ℕ} → at ≡ i → m ≡ get_or ps 3 0 → leb i n ≡ true → allows ps (n + length ls) ≡ true →
+  pub put_done : {cs' ps' qs : List ℕ} {at m : ℕ} → at ≡ i → m ≡ get_or ps 3 0 → leb i n ≡ true → allows ps (n + length ls) ≡ true →
       Wrote cs ps cs' ps' (with_cells (paper_of cs ps) (take at (paper_of cs ps).cells ++ (new_cells ls s m ++ drop at (paper_of cs ps).cells))) →
       Rowed ps' qs (row_of ps' ++ (record { author = a; became = 0 } ∷ [])) → Acted cs ps (put a i s ls) cs' qs (number m)
   unfolding told writes rewritten
-  put-done {cs'} {ps'} {qs} {at} {m} e f h k w note =
+  put_done {cs'} {ps'} {qs} {at} {m} e f h k w note =
       let p : Paper = paper_of cs ps in
       let row : row_of ps' ≡ p.changes = ap (λ (r : Paper). r.changes) w.paper in
       let rows : List Change = p.changes ++ (record { author = a; became = 0 } ∷ []) in
-      let t : turned (limits_of ps) (desk_of cs ps) (put a i s ls) ≡ 0 = turned_not (limits_of ps) (desk_of cs ps) (put a i s ls) good-put (there h) (fit ∙ k) in
+      let t : turned (limits_of ps) (desk_of cs ps) (put a i s ls) ≡ 0 = turned_not (limits_of ps) (desk_of cs ps) (put a i s ls) good_put (there h) (fit ∙ k) in
       let new : m ≡ length p.changes = f ∙ sym (changes_counted cs ps) in
       let done : Wrote cs ps cs' qs (rewritten p (put a i s ls)) =
       rw (e, new) at (rowed_too cs ps cs' ps' qs (with_cells p (take at p.cells ++ (new_cells ls s m ++ drop at p.cells))) rows w

@@ -29,20 +29,20 @@ module _ (ps : List ℕ) (d : Desk) where
   turned_same (change c) = refl
   turned_same (save i n) = refl
 
-  answer-same : (c : Call) → answer (limits_of ps) d c ≡ answer (limits_of ps) (bare d.now) c
+  answer_same : (c : Call) → answer (limits_of ps) d c ≡ answer (limits_of ps) (bare d.now) c
   unfolding call_number turned_by told
-  answer-same (put a i s ls) = refl
-  answer-same (strikes a i n) = refl
-  answer-same (accepts c) = refl
-  answer-same (rejects c) = refl
-  answer-same (styles i n s) = refl
-  answer-same undo = refl
-  answer-same redo = refl
-  answer-same (show k w r n) = refl
-  answer-same (find k i ls) = refl
-  answer-same (count k) = refl
-  answer-same (change c) = refl
-  answer-same (save i n) = refl
+  answer_same (put a i s ls) = refl
+  answer_same (strikes a i n) = refl
+  answer_same (accepts c) = refl
+  answer_same (rejects c) = refl
+  answer_same (styles i n s) = refl
+  answer_same undo = refl
+  answer_same redo = refl
+  answer_same (show k w r n) = refl
+  answer_same (find k i ls) = refl
+  answer_same (count k) = refl
+  answer_same (change c) = refl
+  answer_same (save i n) = refl
 
 pick_now : (b : Bool) (d e : Desk) → (pick b d e).now ≡ pick b d.now e.now
 pick_now true d e = refl
@@ -86,7 +86,7 @@ done cs ps us cs' ps' rs c long acted is d st =
     let l : Limits = limits_of ps in
     let here : bare d.now ≡ desk_of cs ps = ap bare st.paper in
     let t : turned l d c ≡ turned l (desk_of cs ps) c = turned_same ps d c ∙ ap (λ (e : Desk). turned l e c) here in
-    let a : answer l d c ≡ answer l (desk_of cs ps) c = answer-same ps d c ∙ ap (λ (e : Desk). answer l e c) here in
+    let a : answer l d c ≡ answer l (desk_of cs ps) c = answer_same ps d c ∙ ap (λ (e : Desk). answer l e c) here in
     let n : (after l d c).now ≡ (after l (desk_of cs ps) c).now = after_same ps d c ∙ ap (λ (e : Desk). (after l e c).now) here in
     record {
       stands = record { sound = still cs ps us cs' ps' (after l (desk_of cs ps) c).now long acted.wrote; paper = n ∙ sym acted.wrote.paper };

@@ -50,97 +50,97 @@ module _ (cs ps : List ℕ) (held : Held cs ps) where
   pub cells_there : length (paper_of cs ps).cells ≡ before (tables ps) (slots_of ps)
   cells_there = length_text cs (tables ps) (slots_of ps)
 
-  changes-there : length (paper_of cs ps).changes ≡ get_or ps 3 0
-  changes-there = length_changes (drop 16 ps) 0 (get_or ps 3 0)
+  changes_there : length (paper_of cs ps).changes ≡ get_or ps 3 0
+  changes_there = length_changes (drop 16 ps) 0 (get_or ps 3 0)
 
-  pub few-enough : (xs : List Cell) → length xs ≤ length (paper_of cs ps).cells → leb (length xs) (get_or ps 0 0) ≡ true
-  few-enough xs h = le-leb (length xs) (get_or ps 0 0) (omega (arith, held.cells_fit))
+  pub few_enough : (xs : List Cell) → length xs ≤ length (paper_of cs ps).cells → leb (length xs) (get_or ps 0 0) ≡ true
+  few_enough xs h = le-leb (length xs) (get_or ps 0 0) (omega (arith, held.cells_fit))
 
   module _ (a i n : ℕ) (good : good_fields (strikes a i n) ≡ true) where
-    good-strike : good_call (limits_of ps) (strikes a i n) ≡ true
+    good_strike : good_call (limits_of ps) (strikes a i n) ≡ true
     unfolding call_number
-    good-strike = good
+    good_strike = good
 
-    struck-there : (b : Bool) → leb (i + n) (before (tables ps) (slots_of ps)) ≡ b → turned_by (desk_of cs ps) (strikes a i n) ≡ pick b 0 4
+    struck_there : (b : Bool) → leb (i + n) (before (tables ps) (slots_of ps)) ≡ b → turned_by (desk_of cs ps) (strikes a i n) ≡ pick b 0 4
     unfolding turned_by
-    struck-there b h = rw cells_there (rw h refl)
+    struck_there b h = rw cells_there (rw h refl)
 
-    struck-is : (rewritten (paper_of cs ps) (strikes a i n)).cells ≡ swept_run (Strike a (get_or ps 3 0)) (paper_of cs ps).changes (paper_of cs ps).cells i n
+    struck_is : (rewritten (paper_of cs ps) (strikes a i n)).cells ≡ swept_run (Strike a (get_or ps 3 0)) (paper_of cs ps).changes (paper_of cs ps).cells i n
     unfolding rewritten
-    struck-is =
+    struck_is =
         (one_meaning (paper_of cs ps).changes (paper_of cs ps).cells).2 i n a (length (paper_of cs ps).changes)
-        ∙ ap (λ (m : ℕ). swept_run (Strike a m) (paper_of cs ps).changes (paper_of cs ps).cells i n) changes-there
+        ∙ ap (λ (m : ℕ). swept_run (Strike a m) (paper_of cs ps).changes (paper_of cs ps).cells i n) changes_there
 
-    struck-fit : leb (i + n) (before (tables ps) (slots_of ps)) ≡ true → fits (limits_of ps) (rewritten (paper_of cs ps) (strikes a i n)) ≡ allows ps (before (tables ps) (slots_of ps))
+    struck_fit : leb (i + n) (before (tables ps) (slots_of ps)) ≡ true → fits (limits_of ps) (rewritten (paper_of cs ps) (strikes a i n)) ≡ allows ps (before (tables ps) (slots_of ps))
     unfolding rewritten
-    struck-fit h =
+    struck_fit h =
         let inside : i + n ≤ length (paper_of cs ps).cells = omega (arith, leb-true (i + n) (before (tables ps) (slots_of ps)) h, cells_there) in
         let ys : List Cell = (rewritten (paper_of cs ps) (strikes a i n)).cells in
         let short : length ys ≤ length (paper_of cs ps).cells =
-        subst (λ (zs : List Cell). length zs ≤ length (paper_of cs ps).cells) (sym struck-is)
+        subst (λ (zs : List Cell). length zs ≤ length (paper_of cs ps).cells) (sym struck_is)
         (length_swept_run (Strike a (get_or ps 3 0)) (paper_of cs ps).changes (paper_of cs ps).cells i n inside) in
         let x : leb (length ys) (get_or ps 0 0) ≡ leb (before (tables ps) (slots_of ps)) (get_or ps 0 0) =
-        few-enough ys short ∙ sym (le-leb (before (tables ps) (slots_of ps)) (get_or ps 0 0) (omega (arith, held.cells_fit, cells_there))) in
+        few_enough ys short ∙ sym (le-leb (before (tables ps) (slots_of ps)) (get_or ps 0 0) (omega (arith, held.cells_fit, cells_there))) in
         let y : length (rewritten (paper_of cs ps) (strikes a i n)).changes ≡ suc (get_or ps 3 0) =
-        length-append (paper_of cs ps).changes (record { author = a; became = 0 } ∷ []) ∙ omega (arith, changes-there) in
+        length-append (paper_of cs ps).changes (record { author = a; became = 0 } ∷ []) ∙ omega (arith, changes_there) in
         ap₂ ◌&&◌ x (ap (λ (m : ℕ). leb m (get_or ps 1 0)) y)
 
-    pub strike-nowhere : leb (i + n) (before (tables ps) (slots_of ps)) ≡ false → Acted cs ps (strikes a i n) cs ps (refused 4 1)
+    pub strike_nowhere : leb (i + n) (before (tables ps) (slots_of ps)) ≡ false → Acted cs ps (strikes a i n) cs ps (refused 4 1)
     unfolding place
-    strike-nowhere h = refuses cs ps (strikes a i n) 3 held (turned_first (limits_of ps) (desk_of cs ps) (strikes a i n) 3 good-strike (struck-there false h))
+    strike_nowhere h = refuses cs ps (strikes a i n) 3 held (turned_first (limits_of ps) (desk_of cs ps) (strikes a i n) 3 good_strike (struck_there false h))
 
-    pub strike-too-much : leb (i + n) (before (tables ps) (slots_of ps)) ≡ true → allows ps (before (tables ps) (slots_of ps)) ≡ false → Acted cs ps (strikes a i n) cs ps (refused 9 0)
+    pub strike_too_much : leb (i + n) (before (tables ps) (slots_of ps)) ≡ true → allows ps (before (tables ps) (slots_of ps)) ≡ false → Acted cs ps (strikes a i n) cs ps (refused 9 0)
     unfolding place
-    strike-too-much h k = refuses cs ps (strikes a i n) 8 held (turned_last (limits_of ps) (desk_of cs ps) (strikes a i n) good-strike (struck-there true h) (struck-fit h ∙ k))
+    strike_too_much h k = refuses cs ps (strikes a i n) 8 held (turned_last (limits_of ps) (desk_of cs ps) (strikes a i n) good_strike (struck_there true h) (struck_fit h ∙ k))
 
-    pub strike-done : (cs' ps' qs : List ℕ) → leb (i + n) (before (tables ps) (slots_of ps)) ≡ true → allows ps (before (tables ps) (slots_of ps)) ≡ true →
+    pub strike_done : (cs' ps' qs : List ℕ) → leb (i + n) (before (tables ps) (slots_of ps)) ≡ true → allows ps (before (tables ps) (slots_of ps)) ≡ true →
         Wrote cs ps cs' ps' (with_cells (paper_of cs ps) (swept_run (Strike a (get_or ps 3 0)) (paper_of cs ps).changes (paper_of cs ps).cells i n)) →
         Rowed ps' qs (row_of ps' ++ (record { author = a; became = 0 } ∷ [])) → Acted cs ps (strikes a i n) cs' qs (number (get_or ps 3 0))
     unfolding told writes rewritten
-    strike-done cs' ps' qs h k w note =
+    strike_done cs' ps' qs h k w note =
         let p : Paper = paper_of cs ps in
         let xs : List Cell = swept_run (Strike a (get_or ps 3 0)) p.changes p.cells i n in
         let rows : List Change = p.changes ++ (record { author = a; became = 0 } ∷ []) in
         let row : row_of ps' ≡ p.changes = ap (λ (r : Paper). r.changes) w.paper in
         let t : turned (limits_of ps) (desk_of cs ps) (strikes a i n) ≡ 0 =
-        turned_not (limits_of ps) (desk_of cs ps) (strikes a i n) good-strike (struck-there true h) (struck-fit h ∙ k) in
+        turned_not (limits_of ps) (desk_of cs ps) (strikes a i n) good_strike (struck_there true h) (struck_fit h ∙ k) in
         let all : Wrote cs ps cs' qs (record { cells = xs; changes = rows }) =
         rowed_too cs ps cs' ps' qs (with_cells p xs) rows w (subst (λ (rs : List Change). Rowed ps' qs (rs ++ (record { author = a; became = 0 } ∷ []))) row note) in
-        let done : Wrote cs ps cs' qs (rewritten p (strikes a i n)) = subst (λ (ys : List Cell). Wrote cs ps cs' qs (record { cells = ys; changes = rows })) (sym struck-is) all in
-        subst (λ (m : ℕ). Acted cs ps (strikes a i n) cs' qs (number m)) changes-there (wrote_it cs ps cs' qs (strikes a i n) t refl done)
+        let done : Wrote cs ps cs' qs (rewritten p (strikes a i n)) = subst (λ (ys : List Cell). Wrote cs ps cs' qs (record { cells = ys; changes = rows })) (sym struck_is) all in
+        subst (λ (m : ℕ). Acted cs ps (strikes a i n) cs' qs (number m)) changes_there (wrote_it cs ps cs' qs (strikes a i n) t refl done)
 
   module _ (i n s : ℕ) (good : good_fields (styles i n s) ≡ true) where
-    good-style : good_call (limits_of ps) (styles i n s) ≡ true
+    good_style : good_call (limits_of ps) (styles i n s) ≡ true
     unfolding call_number
-    good-style = good
+    good_style = good
 
-    styled-there : (b : Bool) → leb (i + n) (before (tables ps) (slots_of ps)) ≡ b → turned_by (desk_of cs ps) (styles i n s) ≡ pick b 0 4
+    styled_there : (b : Bool) → leb (i + n) (before (tables ps) (slots_of ps)) ≡ b → turned_by (desk_of cs ps) (styles i n s) ≡ pick b 0 4
     unfolding turned_by
-    styled-there b h = rw cells_there (rw h refl)
+    styled_there b h = rw cells_there (rw h refl)
 
-    styled-is : (rewritten (paper_of cs ps) (styles i n s)).cells ≡ swept_run (Style s) (paper_of cs ps).changes (paper_of cs ps).cells i n
+    styled_is : (rewritten (paper_of cs ps) (styles i n s)).cells ≡ swept_run (Style s) (paper_of cs ps).changes (paper_of cs ps).cells i n
     unfolding rewritten
-    styled-is = (one_meaning (paper_of cs ps).changes (paper_of cs ps).cells).3 i n s
+    styled_is = (one_meaning (paper_of cs ps).changes (paper_of cs ps).cells).3 i n s
 
-    styled-fit : leb (i + n) (before (tables ps) (slots_of ps)) ≡ true → fits (limits_of ps) (rewritten (paper_of cs ps) (styles i n s)) ≡ true
+    styled_fit : leb (i + n) (before (tables ps) (slots_of ps)) ≡ true → fits (limits_of ps) (rewritten (paper_of cs ps) (styles i n s)) ≡ true
     unfolding rewritten
-    styled-fit h =
+    styled_fit h =
         let inside : i + n ≤ length (paper_of cs ps).cells = omega (arith, leb-true (i + n) (before (tables ps) (slots_of ps)) h, cells_there) in
         let ys : List Cell = (rewritten (paper_of cs ps) (styles i n s)).cells in
         let short : length ys ≤ length (paper_of cs ps).cells =
-        subst (λ (zs : List Cell). length zs ≤ length (paper_of cs ps).cells) (sym styled-is)
+        subst (λ (zs : List Cell). length zs ≤ length (paper_of cs ps).cells) (sym styled_is)
         (length_swept_run (Style s) (paper_of cs ps).changes (paper_of cs ps).cells i n inside) in
-        let y : leb (length (paper_of cs ps).changes) (get_or ps 1 0) ≡ true = le-leb (length (paper_of cs ps).changes) (get_or ps 1 0) (omega (arith, held.changes_fit, changes-there)) in
-        ap₂ ◌&&◌ (few-enough ys short) y
+        let y : leb (length (paper_of cs ps).changes) (get_or ps 1 0) ≡ true = le-leb (length (paper_of cs ps).changes) (get_or ps 1 0) (omega (arith, held.changes_fit, changes_there)) in
+        ap₂ ◌&&◌ (few_enough ys short) y
 
-    pub style-nowhere : leb (i + n) (before (tables ps) (slots_of ps)) ≡ false → Acted cs ps (styles i n s) cs ps (refused 4 0)
+    pub style_nowhere : leb (i + n) (before (tables ps) (slots_of ps)) ≡ false → Acted cs ps (styles i n s) cs ps (refused 4 0)
     unfolding place
-    style-nowhere h = refuses cs ps (styles i n s) 3 held (turned_first (limits_of ps) (desk_of cs ps) (styles i n s) 3 good-style (styled-there false h))
+    style_nowhere h = refuses cs ps (styles i n s) 3 held (turned_first (limits_of ps) (desk_of cs ps) (styles i n s) 3 good_style (styled_there false h))
 
-    pub style-done : (cs' ps' : List ℕ) → leb (i + n) (before (tables ps) (slots_of ps)) ≡ true →
+    pub style_done : (cs' ps' : List ℕ) → leb (i + n) (before (tables ps) (slots_of ps)) ≡ true →
         Wrote cs ps cs' ps' (with_cells (paper_of cs ps) (swept_run (Style s) (paper_of cs ps).changes (paper_of cs ps).cells i n)) → Acted cs ps (styles i n s) cs' ps' (number n)
     unfolding told writes rewritten
-    style-done cs' ps' h w =
+    style_done cs' ps' h w =
         let t : turned (limits_of ps) (desk_of cs ps) (styles i n s) ≡ 0 =
-        turned_not (limits_of ps) (desk_of cs ps) (styles i n s) good-style (styled-there true h) (styled-fit h) in
-        wrote_it cs ps cs' ps' (styles i n s) t refl (subst (λ (ys : List Cell). Wrote cs ps cs' ps' (with_cells (paper_of cs ps) ys)) (sym styled-is) w)
+        turned_not (limits_of ps) (desk_of cs ps) (styles i n s) good_style (styled_there true h) (styled_fit h) in
+        wrote_it cs ps cs' ps' (styles i n s) t refl (subst (λ (ys : List Cell). Wrote cs ps cs' ps' (with_cells (paper_of cs ps) ys)) (sym styled_is) w)

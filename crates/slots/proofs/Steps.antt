@@ -6,7 +6,7 @@ use Rattle.model.specs.Paper.{new_cells}
 use Rattle.model.specs.Values.{cell_of}
 use Rattle.model.specs.declared.Cell.{Cell}
 use Rattle.slots.specs.Cells.{cell_at, cells_at, Kept}
-use Rattle.slots.proofs.Words.{cells_same, cell_same, cells_more, kept-cells-below, kept-wider, kept_twice, new_cells_more}
+use Rattle.slots.proofs.Words.{cells_same, cell_same, cells_more, kept_cells_below, kept_wider, kept_twice, new_cells_more}
 
 -- four words written from number b on
 abbrev four : List ℕ → ℕ → Cell → List ℕ
@@ -62,10 +62,10 @@ copied c d from to n e h = (
 added : (c d e : List ℕ) (a i : ℕ) (xs : List paper.Cell) (x : paper.Cell) → cells_at d a i ≡ xs → Kept c d a i → cell_at e (a + i) ≡ x → Kept d e (a + i) 1
     → (cells_at e a (i + 1) ≡ xs ++ (x ∷ [])) × Kept c e a (i + 1)
 added c d e a i xs x f k w j =
-    let same = kept-cells-below d e (a + i) 1 j a i (omega arith) in
+    let same = kept_cells_below d e (a + i) 1 j a i (omega arith) in
     let one = cells_more e a i in (
       cc,
-      kept_twice c d e a (i + 1) (kept-wider c d a i k a (i + 1) (omega arith) (omega arith)) (kept-wider d e (a + i) 1 j a (i + 1) (omega arith) (omega arith)),
+      kept_twice c d e a (i + 1) (kept_wider c d a i k a (i + 1) (omega arith) (omega arith)) (kept_wider d e (a + i) 1 j a (i + 1) (omega arith) (omega arith)),
     )
 
 -- one more new cell

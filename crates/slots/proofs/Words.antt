@@ -53,25 +53,25 @@ drop_cells c a n i l =
 
 -- what a change of the n cells from b on leaves
 module _ (c d : List ℕ) (b n : ℕ) (k : Kept c d b n) where
-  pub kept-cell-below : (a : ℕ) → a < b → cell_at d a ≡ cell_at c a
-  kept-cell-below a l =
+  pub kept_cell_below : (a : ℕ) → a < b → cell_at d a ≡ cell_at c a
+  kept_cell_below a l =
       cell_same d c a a (k.below (4 * a) (omega arith)) (k.below (4 * a + 1) (omega arith)) (k.below (4 * a + 2) (omega arith)) (k.below (4 * a + 3) (omega arith))
 
-  pub kept-cell-above : (a : ℕ) → b + n ≤ a → cell_at d a ≡ cell_at c a
-  kept-cell-above a l =
+  pub kept_cell_above : (a : ℕ) → b + n ≤ a → cell_at d a ≡ cell_at c a
+  kept_cell_above a l =
       cell_same d c a a (k.above (4 * a) (omega arith)) (k.above (4 * a + 1) (omega arith)) (k.above (4 * a + 2) (omega arith)) (k.above (4 * a + 3) (omega arith))
 
-  pub kept-cells-below : (a m : ℕ) → a + m ≤ b → cells_at d a m ≡ cells_at c a m
-  kept-cells-below a m l = cells_same d c a a m (λ i h. kept-cell-below (a + i) (omega arith))
+  pub kept_cells_below : (a m : ℕ) → a + m ≤ b → cells_at d a m ≡ cells_at c a m
+  kept_cells_below a m l = cells_same d c a a m (λ i h. kept_cell_below (a + i) (omega arith))
 
-  pub kept-cells-above : (a m : ℕ) → b + n ≤ a → cells_at d a m ≡ cells_at c a m
-  kept-cells-above a m l = cells_same d c a a m (λ i h. kept-cell-above (a + i) (omega arith))
+  pub kept_cells_above : (a m : ℕ) → b + n ≤ a → cells_at d a m ≡ cells_at c a m
+  kept_cells_above a m l = cells_same d c a a m (λ i h. kept_cell_above (a + i) (omega arith))
 
-  pub kept-wider : (a m : ℕ) → a ≤ b → b + n ≤ a + m → Kept c d a m
-  kept-wider a m l r = record { long = k.long; below = λ w h. k.below w (omega arith); above = λ w h. k.above w (omega arith) }
+  pub kept_wider : (a m : ℕ) → a ≤ b → b + n ≤ a + m → Kept c d a m
+  kept_wider a m l r = record { long = k.long; below = λ w h. k.below w (omega arith); above = λ w h. k.above w (omega arith) }
 
-  pub kept-drop : (m : ℕ) → 4 * (b + n) ≤ m → drop m d ≡ drop m c
-  kept-drop m l =
+  pub kept_drop : (m : ℕ) → 4 * (b + n) ≤ m → drop m d ≡ drop m c
+  kept_drop m l =
       let e = k.long in
       ext_get_or 0 (drop m d) (drop m c) (simp (length-drop) (omega arith))
       (λ i h. simp get_or-drop (k.above (m + i) (omega arith)))

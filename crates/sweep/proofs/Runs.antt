@@ -12,15 +12,15 @@ use Rattle.sweep.proofs.Laws.{swept_none, swept_append}
 
 module _ (a : Action) (cs : List Change) where
   -- no cells, and all cells
-  pub swept-run-none : (t : List Cell) (i : ℕ) → swept_run a cs t i 0 ≡ t
-  swept-run-none t i =
+  pub swept_run_none : (t : List Cell) (i : ℕ) → swept_run a cs t i 0 ≡ t
+  swept_run_none t i =
       let n = swept_none a cs in
       let z : i + 0 ≡ i = omega arith in
       let h = take-append-drop i t in
       cc
 
-  pub swept-run-all : (t : List Cell) (n : ℕ) → length t ≡ n → swept_run a cs t 0 n ≡ swept a cs t
-  swept-run-all t n e =
+  pub swept_run_all : (t : List Cell) (n : ℕ) → length t ≡ n → swept_run a cs t 0 n ≡ swept a cs t
+  swept_run_all t n e =
       let z : 0 + n ≡ n = omega arith in
       let tk = take_all n t (omega arith) in
       let dr = drop_all n t (omega arith) in
@@ -28,9 +28,9 @@ module _ (a : Action) (cs : List Change) where
       cc
 
   -- the first m of the cells, and then the others
-  pub swept-run-step : (t : List Cell) (i m left r : ℕ) → m ≤ left → i + left ≤ length t → r ≡ length (swept a cs (take m (drop i t)))
+  pub swept_run_step : (t : List Cell) (i m left r : ℕ) → m ≤ left → i + left ≤ length t → r ≡ length (swept a cs (take m (drop i t)))
       → swept_run a cs (swept_run a cs t i m) (i + r) (left - m) ≡ swept_run a cs t i left
-  swept-run-step t i m left r l h e =
+  swept_run_step t i m left r l h e =
       let ys = swept a cs (take m (drop i t)) in
       let zs = swept a cs (take (left - m) (drop (i + m) t)) in
       let rest = drop (i + m) t in
@@ -81,7 +81,7 @@ run_step c p d q s at k o m left r a cs f l h w g e =
     let tx : cells_of d q s ≡ swept_run a cs t at m = cc in
     let lt : length (cells_of d q s) ≡ length (replaced t at m ys) = cc in
     let r2 : r ≡ length (swept a cs (take m (drop at t))) = cc in
-    (omega arith, ap (λ x. swept_run a cs x (at + r) (left - m)) tx ∙ swept-run-step a cs t at m left r l (omega arith) r2)
+    (omega arith, ap (λ x. swept_run a cs x (at + r) (left - m)) tx ∙ swept_run_step a cs t at m left r l (omega arith) r2)
 
 -- every list swept
 pub strung_swept : (a : Action) (cs : List Change) (f g : ℕ → List Cell) (k n : ℕ) → ((i : ℕ) → i < n → g (k + i) ≡ swept a cs (f (k + i))) → strung g k n ≡ swept a cs (strung f k n)

@@ -198,15 +198,15 @@ module _ (k : ℕ) (lt : k < 12) where
   is_call ns ls e sm = let own = its_line k ns ls lt e in (call_of k ns ls, own.1 ∙ sm, own.0)
 
   -- after the word and the numbers
-  after-numbers : (xs ys rest ns : List ℕ) → xs ≡ (shape_of k).word ++ (numbers_line ns ++ ys) → length ns ≡ (shape_of k).count → small ns ≡ true → Part (IsTail (shape_of k).lettered) ys rest → Part IsCall xs rest
-  after-numbers xs ys rest ns e len sm p =
+  after_numbers : (xs ys rest ns : List ℕ) → xs ≡ (shape_of k).word ++ (numbers_line ns ++ ys) → length ns ≡ (shape_of k).count → small ns ≡ true → Part (IsTail (shape_of k).lettered) ys rest → Part IsCall xs rest
+  after_numbers xs ys rest ns e len sm p =
       let w : List ℕ = (shape_of k).word in
       later (IsTail (shape_of k).lettered) IsCall xs ys rest (w ++ numbers_line ns) (e ∙ sym (append_assoc w (numbers_line ns) ys))
       (λ z q. subst IsCall (sym (append_assoc w (numbers_line ns) z ∙ ap (λ u. w ++ (numbers_line ns ++ u)) q.1)) (is_call ns q.0 len sm))
       p
 
-  head-part : (xs rest : List ℕ) → head_in (shape_of k).word (shape_of k).count xs ≡ stop rest → Part IsCall xs rest
-  head-part xs rest h = go (either (literal_in (shape_of k).word xs) (λ _ ys. numbers_in (shape_of k).count [] ys) rest h)
+  head_part : (xs rest : List ℕ) → head_in (shape_of k).word (shape_of k).count xs ≡ stop rest → Part IsCall xs rest
+  head_part xs rest h = go (either (literal_in (shape_of k).word xs) (λ _ ys. numbers_in (shape_of k).count [] ys) rest h)
     where
       go : (literal_in (shape_of k).word xs ≡ stop rest) ⊎ Later (literal_in (shape_of k).word xs) (λ _ ys. numbers_in (shape_of k).count [] ys) rest → Part IsCall xs rest
       go (inl e) =
@@ -221,8 +221,8 @@ module _ (k : ℕ) (lt : k < 12) where
           (λ z q. subst (λ u. IsCall ((shape_of k).word ++ (u ++ after))) (sym q.1) (is_call q.0 [] q.2 q.3))
           (numbers_part (shape_of k).count [] p.1 rest p.3))
 
-  call-part : (xs rest : List ℕ) → call_in k xs ≡ stop rest → Part IsCall xs rest
-  call-part xs rest h = go (either (head_in (shape_of k).word (shape_of k).count xs) (λ ns ys. and_then (tail_in (shape_of k).lettered ys) (λ ls zs. ended (call_of k ns ls) zs)) rest h)
+  call_part : (xs rest : List ℕ) → call_in k xs ≡ stop rest → Part IsCall xs rest
+  call_part xs rest h = go (either (head_in (shape_of k).word (shape_of k).count xs) (λ ns ys. and_then (tail_in (shape_of k).lettered ys) (λ ls zs. ended (call_of k ns ls) zs)) rest h)
     where
       ending : (ns ys : List ℕ) → (tail_in (shape_of k).lettered ys ≡ stop rest) ⊎ Later (tail_in (shape_of k).lettered ys) (λ ls zs. ended (call_of k ns ls) zs) rest → Part (IsTail (shape_of k).lettered) ys rest
       ending ns ys (inl e) = tail_part (shape_of k).lettered ys rest e
@@ -231,11 +231,11 @@ module _ (k : ℕ) (lt : k < 12) where
           (t, [], tail_only (shape_of k).lettered ys p.0 p.1 p.2 ∙ ap (λ us. t ++ us) (ended_rest (call_of k ns p.0) p.1 rest p.3), (p.0, append-nil t))
 
       go : (head_in (shape_of k).word (shape_of k).count xs ≡ stop rest) ⊎ Later (head_in (shape_of k).word (shape_of k).count xs) (λ ns ys. and_then (tail_in (shape_of k).lettered ys) (λ ls zs. ended (call_of k ns ls) zs)) rest → Part IsCall xs rest
-      go (inl e) = head-part xs rest e
+      go (inl e) = head_part xs rest e
       go (inr p) =
           let q = both (literal_in (shape_of k).word xs) (λ _ us. numbers_in (shape_of k).count [] us) p.0 p.1 p.2 in
           let m = numbers_only (shape_of k).count [] q.left p.0 p.1 q.second in
-          after-numbers xs p.1 rest m.0 (literal_only (shape_of k).word xs q.left q.first ∙ ap (λ us. (shape_of k).word ++ us) m.2) m.3 m.4
+          after_numbers xs p.1 rest m.0 (literal_only (shape_of k).word xs q.left q.first ∙ ap (λ us. (shape_of k).word ++ us) m.2) m.3 m.4
           (ending p.0 p.1 (either (tail_in (shape_of k).lettered p.1) (λ ls zs. ended (call_of k p.0 ls) zs) rest p.3))
 
 -- from what is left of the line to the place
@@ -260,7 +260,7 @@ reading_begins (suc n) k far xs i e p h = go (call_in k xs) refl (λ f. reading_
   where
     go : (s : Step Call) → call_in k xs ≡ s → ((f : ℕ) → BeginsCall xs f → reading_from n (k + 1) f xs ≡ ceases i → BeginsCall xs i) → tried n k far xs s ≡ ceases i → BeginsCall xs i
     go (got d rest) q more t = absurd (let z : ◌≡◌ {A = ℕ} 0 1 = cc in omega arith)
-    go (stop rest) q more t = more _ (furthest xs far (length xs - length rest) p (begins_at xs rest (call-part k (omega arith) xs rest q))) t
+    go (stop rest) q more t = more _ (furthest xs far (length xs - length rest) p (begins_at xs rest (call_part k (omega arith) xs rest q))) t
 
 pub place_begins : (xs : List ℕ) (i : ℕ) → line_reading xs ≡ ceases i → BeginsCall xs i
 unfolding readable

@@ -27,16 +27,16 @@ module _ (line xs : List ℕ) (i : ℕ) where
       let short : length (drop i xs) < 4 = simp length-drop (omega arith) in
       rw (lt-ltb (length (drop i xs)) 4 short)
 
-  pub number-whole : (n : ℕ) → 4 ≤ length xs - i → n ≡ word_at xs i → number_shown line (drop i xs) ≡ got (line ++ decimal n) (drop (i + 4) xs)
+  pub number_whole : (n : ℕ) → 4 ≤ length xs - i → n ≡ word_at xs i → number_shown line (drop i xs) ≡ got (line ++ decimal n) (drop (i + 4) xs)
   unfolding number_shown
-  number-whole n h e =
+  number_whole n h e =
       let long : 4 ≤ length (drop i xs) = simp length-drop (omega arith) in
       rw (le-ltb (length (drop i xs)) 4 long)
       (ap (λ m. got (line ++ decimal m) (drop 4 (drop i xs))) (first_word xs i ∙ sym e) ∙ ap (got (line ++ decimal n)) (drop-drop 4 i xs))
 
-  pub cell-short : length xs - i < 16 → cell_shown line (drop i xs) ≡ stop (drop i xs)
+  pub cell_short : length xs - i < 16 → cell_shown line (drop i xs) ≡ stop (drop i xs)
   unfolding cell_shown
-  cell-short h =
+  cell_short h =
       let short : length (drop i xs) < 16 = simp length-drop (omega arith) in
       rw (lt-ltb (length (drop i xs)) 16 short)
 
@@ -44,15 +44,15 @@ module _ (line xs : List ℕ) (i : ℕ) where
     long : 16 ≤ length (drop i xs)
     long = simp length-drop (omega arith)
 
-    pub cell-wrong : 255 < l → cell_shown line (drop i xs) ≡ stop (drop i xs)
+    pub cell_wrong : 255 < l → cell_shown line (drop i xs) ≡ stop (drop i xs)
     unfolding cell_shown
-    cell-wrong big =
+    cell_wrong big =
         let le : 256 ≤ word_at (drop i xs) 0 = omega (arith, first_word xs i) in
         rw (le-ltb (length (drop i xs)) 16 long, le-ltb (word_at (drop i xs) 0) 256 le)
 
-    pub cell-whole : (p s : ℕ) → p ≡ word_at xs (i + 8) → s ≡ word_at xs (i + 12) → l ≤ 255 → cell_shown line (drop i xs) ≡ got (line ++ cell_line l p s) (drop (i + 16) xs)
+    pub cell_whole : (p s : ℕ) → p ≡ word_at xs (i + 8) → s ≡ word_at xs (i + 12) → l ≤ 255 → cell_shown line (drop i xs) ≡ got (line ++ cell_line l p s) (drop (i + 16) xs)
     unfolding cell_shown
-    cell-whole p s ep es small =
+    cell_whole p s ep es small =
         let lt : word_at (drop i xs) 0 < 256 = omega (arith, first_word xs i) in
         let el : word_at (drop i xs) 0 ≡ l = first_word xs i ∙ sym e in
         let eq : word_at (drop i xs) 8 ≡ p = word_drop xs i 8 ∙ sym ep in
@@ -78,36 +78,36 @@ cell_parts line mark escape l = append_assoc (line ++ mark) escape (l ∷ []) �
 
 -- a part whose first four bytes are its count
 module _ (f : List ℕ → List ℕ → Step (List ℕ)) where
-  pub counted-short : (line xs : List ℕ) (i : ℕ) → length xs - i < 4 → counted f line (drop i xs) ≡ stop (drop i xs)
+  pub counted_short : (line xs : List ℕ) (i : ℕ) → length xs - i < 4 → counted f line (drop i xs) ≡ stop (drop i xs)
   unfolding counted
-  counted-short line xs i h =
+  counted_short line xs i h =
       let short : length (drop i xs) < 4 = simp length-drop (omega arith) in
       rw (lt-ltb (length (drop i xs)) 4 short)
 
-  pub counted-whole : (line xs : List ℕ) (i n : ℕ) → 4 ≤ length xs - i → n ≡ word_at xs i → counted f line (drop i xs) ≡ repeated f n line (drop (i + 4) xs)
+  pub counted_whole : (line xs : List ℕ) (i n : ℕ) → 4 ≤ length xs - i → n ≡ word_at xs i → counted f line (drop i xs) ≡ repeated f n line (drop (i + 4) xs)
   unfolding counted
-  counted-whole line xs i n h e =
+  counted_whole line xs i n h e =
       let long : 4 ≤ length (drop i xs) = simp length-drop (omega arith) in
       rw (le-ltb (length (drop i xs)) 4 long)
       (ap (λ m. repeated f m line (drop 4 (drop i xs))) (first_word xs i ∙ sym e) ∙ ap (repeated f n line) (drop-drop 4 i xs))
 
-  repeated-next : (n : ℕ) (line xs : List ℕ) (s : Step (List ℕ)) → 0 < n → f line xs ≡ s → repeated f n line xs ≡ and_then s (repeated f (n - 1))
+  repeated_next : (n : ℕ) (line xs : List ℕ) (s : Step (List ℕ)) → 0 < n → f line xs ≡ s → repeated f n line xs ≡ and_then s (repeated f (n - 1))
   unfolding repeated
-  repeated-next n line xs s h e =
+  repeated_next n line xs s h e =
       let one : n ≡ suc (n - 1) = omega arith in
       ap (λ m. repeated f m line xs) one ∙ ap (λ r. and_then r (repeated f (n - 1))) e
 
-  pub repeated-more : (n : ℕ) (line xs l ys : List ℕ) → 0 < n → f line xs ≡ got l ys → repeated f n line xs ≡ repeated f (n - 1) l ys
-  repeated-more n line xs l ys h e = repeated-next n line xs (got l ys) h e
+  pub repeated_more : (n : ℕ) (line xs l ys : List ℕ) → 0 < n → f line xs ≡ got l ys → repeated f n line xs ≡ repeated f (n - 1) l ys
+  repeated_more n line xs l ys h e = repeated_next n line xs (got l ys) h e
 
-  pub repeated-stop : (n : ℕ) (line xs ys : List ℕ) → 0 < n → f line xs ≡ stop ys → repeated f n line xs ≡ stop ys
-  repeated-stop n line xs ys h e = repeated-next n line xs (stop ys) h e
+  pub repeated_stop : (n : ℕ) (line xs ys : List ℕ) → 0 < n → f line xs ≡ stop ys → repeated f n line xs ≡ stop ys
+  repeated_stop n line xs ys h e = repeated_next n line xs (stop ys) h e
 
-  pub repeated-done : (n : ℕ) (line xs : List ℕ) → n ≤ 0 → repeated f n line xs ≡ got line xs
+  pub repeated_done : (n : ℕ) (line xs : List ℕ) → n ≤ 0 → repeated f n line xs ≡ got line xs
   unfolding repeated
-  repeated-done n line xs h = let z : n ≡ 0 = omega arith in ap (λ m. repeated f m line xs) z
+  repeated_done n line xs h = let z : n ≡ 0 = omega arith in ap (λ m. repeated f m line xs) z
 
   -- one of n more does not fit, where s is what they all come to
-  pub repeated-break : (s : Step (List ℕ)) (n : ℕ) (line xs : List ℕ) (i : ℕ) (ls : List ℕ) (e : Fault) → 0 < n → repeated f n line (drop i xs) ≡ s → Spells (f line (drop i xs)) xs ls (Err e) → Spells s xs ls (Err e)
-  repeated-break s n line xs i ls (Place j) h e p = (sym e ∙ repeated-stop n line (drop i xs) (drop j xs) h p.0, p.1)
-  repeated-break s n line xs i ls Memory h e p = tt
+  pub repeated_break : (s : Step (List ℕ)) (n : ℕ) (line xs : List ℕ) (i : ℕ) (ls : List ℕ) (e : Fault) → 0 < n → repeated f n line (drop i xs) ≡ s → Spells (f line (drop i xs)) xs ls (Err e) → Spells s xs ls (Err e)
+  repeated_break s n line xs i ls (Place j) h e p = (sym e ∙ repeated_stop n line (drop i xs) (drop j xs) h p.0, p.1)
+  repeated_break s n line xs i ls Memory h e p = tt

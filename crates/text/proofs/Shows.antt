@@ -40,27 +40,27 @@ module _ {X : Type 0} (f : List ℕ → List ℕ → Step (List ℕ)) (b s : X �
     (s-nil : ss [] ≡ []) (s-cons : (x : X) (xs : List X) → ss (x ∷ xs) ≡ s x ++ ss xs)
     (good-cons : (x : X) (xs : List X) → goods (x ∷ xs) ≡ (good x && goods xs))
     (each : (line rest : List ℕ) (x : X) → good x ≡ true → f line (b x ++ rest) ≡ got (line ++ s x) rest) where
-  repeated-shows : (xs : List X) (line rest : List ℕ) → goods xs ≡ true → repeated f (length xs) line (bs xs ++ rest) ≡ got (line ++ ss xs) rest
+  repeated_shows : (xs : List X) (line rest : List ℕ) → goods xs ≡ true → repeated f (length xs) line (bs xs ++ rest) ≡ got (line ++ ss xs) rest
   unfolding repeated
-  repeated-shows [] line rest h = ap (λ ys. got line (ys ++ rest)) b-nil ∙ ap (λ l. got l rest) (sym (append-nil line) ∙ ap (λ l. line ++ l) (sym s-nil))
-  repeated-shows (x ∷ xs) line rest h =
+  repeated_shows [] line rest h = ap (λ ys. got line (ys ++ rest)) b-nil ∙ ap (λ l. got l rest) (sym (append-nil line) ∙ ap (λ l. line ++ l) (sym s-nil))
+  repeated_shows (x ∷ xs) line rest h =
       let p = and_parts (good x) (goods xs) (sym (good-cons x xs) ∙ h) in
       ap (λ ys. and_then (f line ys) (repeated f (length xs))) (ap (λ ys. ys ++ rest) (b-cons x xs) ∙ append_assoc (b x) (bs xs) rest)
       ∙ (ap (λ r. and_then r (repeated f (length xs))) (each line (bs xs ++ rest) x p.0)
-      ∙ (repeated-shows xs (line ++ s x) rest p.1
+      ∙ (repeated_shows xs (line ++ s x) rest p.1
       ∙ ap (λ l. got l rest) (append_assoc line (s x) (ss xs) ∙ ap (λ l. line ++ l) (sym (s-cons x xs)))))
 
-  counted-shows : (xs : List X) (line rest : List ℕ) → goods xs ≡ true → counted f line (word_bytes (length xs) ++ (bs xs ++ rest)) ≡ got (line ++ ss xs) rest
+  counted_shows : (xs : List X) (line rest : List ℕ) → goods xs ≡ true → counted f line (word_bytes (length xs) ++ (bs xs ++ rest)) ≡ got (line ++ ss xs) rest
   unfolding counted word_bytes
-  counted-shows xs line rest h =
+  counted_shows xs line rest h =
       let long : 4 ≤ length (word_bytes (length xs) ++ (bs xs ++ rest)) = omega arith in
       rw (le-ltb (length (word_bytes (length xs) ++ (bs xs ++ rest))) 4 long)
-      (ap (λ m. repeated f m line (bs xs ++ rest)) (word_back (length xs)) ∙ repeated-shows xs line rest h)
+      (ap (λ m. repeated f m line (bs xs ++ rest)) (word_back (length xs)) ∙ repeated_shows xs line rest h)
 
 cells_shows : (xs : List Cell) (line rest : List ℕ) → byte_letters xs ≡ true → counted cell_shown line (word_bytes (length xs) ++ (cells_bytes xs ++ rest)) ≡ got (line ++ row_line xs) rest
 unfolding cells_bytes row_line byte_letters
 cells_shows =
-    counted-shows cell_shown (λ x. words_bytes (x.letter ∷ (x.style ∷ (x.put_in ∷ (x.struck ∷ []))))) (λ x. cell_line x.letter x.put_in x.struck)
+    counted_shows cell_shown (λ x. words_bytes (x.letter ∷ (x.style ∷ (x.put_in ∷ (x.struck ∷ []))))) (λ x. cell_line x.letter x.put_in x.struck)
     cells_bytes row_line (λ x. ltb x.letter 256) byte_letters refl (λ x xs. refl) refl (λ x xs. refl) (λ x xs. refl)
     (λ line rest x h. cell_shows line rest x.letter x.style x.put_in x.struck (ltb-true x.letter 256 h))
 
@@ -73,14 +73,14 @@ row_shows line rest r h =
 rows_shows : (rs : List (List Cell)) (line rest : List ℕ) → byte_rows rs ≡ true → counted row_shown line (word_bytes (length rs) ++ (rows_bytes rs ++ rest)) ≡ got (line ++ rows_line rs) rest
 unfolding rows_bytes rows_line byte_rows
 rows_shows =
-    counted-shows row_shown (λ r. word_bytes (length r) ++ cells_bytes r) (λ r. row_line r ++ codes "|")
+    counted_shows row_shown (λ r. word_bytes (length r) ++ cells_bytes r) (λ r. row_line r ++ codes "|")
     rows_bytes rows_line byte_letters byte_rows refl (λ r rs. sym (append_assoc (word_bytes (length r)) (cells_bytes r) (rows_bytes rs)))
     refl (λ r rs. sym (append_assoc (row_line r) (codes "|") (rows_line rs))) (λ r rs. refl) row_shows
 
 numbers_show : (ns line rest : List ℕ) → counted spaced_shown line (word_bytes (length ns) ++ (words_bytes ns ++ rest)) ≡ got (line ++ numbers_line ns) rest
 unfolding words_bytes numbers_line
 numbers_show ns line rest =
-    counted-shows spaced_shown word_bytes (λ n. 32 ∷ decimal n) words_bytes numbers_line (λ n. true) (λ ns. true) refl (λ n ms. refl) refl (λ n ms. refl) (λ n ms. refl)
+    counted_shows spaced_shown word_bytes (λ n. 32 ∷ decimal n) words_bytes numbers_line (λ n. true) (λ ns. true) refl (λ n ms. refl) refl (λ n ms. refl) (λ n ms. refl)
     (λ l r n h. spaced_shows l r n) ns line rest refl
 
 -- the first byte says which
@@ -129,20 +129,20 @@ module _ (bs : List ℕ) (a : Answer) (ok : showable a ≡ true) (e : bs ≡ ans
       let k = ap answer_shown e ∙ shows a ok in
       let z : ◌≡◌ {A = ℕ} 0 1 = cc (h, k) in omega arith
 
-  pub only-memory : (f : Fault) → Fails (answer_shown bs) bs f → Lacks f
-  only-memory (Place i) h = no_stop (drop i bs) h.0
-  only-memory Memory h = tt
+  pub only_memory : (f : Fault) → Fails (answer_shown bs) bs f → Lacks f
+  only_memory (Place i) h = no_stop (drop i bs) h.0
+  only_memory Memory h = tt
 
 -- the end of the bytes, or what is left over
 module _ (bs line ls : List ℕ) (i : ℕ) (none : line ≡ []) (h : form_shown line bs ≡ got ls (drop i bs)) where
-  at-end : answer_shown bs ≡ ended ls (drop i bs)
-  at-end = ap (λ s. and_then s ended) (ap (λ l. form_shown l bs) (sym none) ∙ h)
+  at_end : answer_shown bs ≡ ended ls (drop i bs)
+  at_end = ap (λ s. and_then s ended) (ap (λ l. form_shown l bs) (sym none) ∙ h)
 
-  pub shown-whole : length bs ≤ i → answer_shown bs ≡ got ls []
-  shown-whole e = at-end ∙ ap (ended ls) (drop_all i bs e)
+  pub shown_whole : length bs ≤ i → answer_shown bs ≡ got ls []
+  shown_whole e = at_end ∙ ap (ended ls) (drop_all i bs e)
 
-  pub shown-over : i < length bs → answer_shown bs ≡ stop (drop i bs)
-  shown-over e = let d = drop_more bs i 0 e in at-end ∙ (ap (ended ls) d ∙ ap (λ ys. stop ys) (sym d))
+  pub shown_over : i < length bs → answer_shown bs ≡ stop (drop i bs)
+  shown_over e = let d = drop_more bs i 0 e in at_end ∙ (ap (ended ls) d ∙ ap (λ ys. stop ys) (sym d))
 
 pub shown_fails : (bs line ls : List ℕ) → line ≡ [] → (f : Fault) → Spells (form_shown line bs) bs ls (Err f) → Fails (answer_shown bs) bs f
 shown_fails bs line ls none (Place i) p = (ap (λ s. and_then s ended) (ap (λ l. form_shown l bs) (sym none) ∙ p.0), p.1)

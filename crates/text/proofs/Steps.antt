@@ -18,33 +18,33 @@ is_digit : (x : ℕ) → 48 ≤ x → x ≤ 57 → digit x ≡ true
 is_digit x a b = rw (le-leb 48 x a, le-leb x 57 b)
 
 module _ (xs : List ℕ) (i : ℕ) where
-  pub literal-done : (ws : List ℕ) (j : ℕ) → length ws ≤ j → literal_in (drop j ws) (drop i xs) ≡ got tt (drop i xs)
+  pub literal_done : (ws : List ℕ) (j : ℕ) → length ws ≤ j → literal_in (drop j ws) (drop i xs) ≡ got tt (drop i xs)
   unfolding literal_in
-  literal-done ws j h = rw (drop_all j ws h)
+  literal_done ws j h = rw (drop_all j ws h)
 
-  pub literal-short : (ws : List ℕ) (j : ℕ) → j < length ws → length xs ≤ i → literal_in (drop j ws) (drop i xs) ≡ stop (drop i xs)
+  pub literal_short : (ws : List ℕ) (j : ℕ) → j < length ws → length xs ≤ i → literal_in (drop j ws) (drop i xs) ≡ stop (drop i xs)
   unfolding literal_in
-  literal-short ws j h k = rw (drop_more ws j 0 h, drop_all i xs k)
+  literal_short ws j h k = rw (drop_more ws j 0 h, drop_all i xs k)
 
-  pub literal-differs : (ws : List ℕ) (j : ℕ) → j < length ws → i < length xs → (get_or xs i 0 ≡ get_or ws j 0 → ⊥) → literal_in (drop j ws) (drop i xs) ≡ stop (drop i xs)
+  pub literal_differs : (ws : List ℕ) (j : ℕ) → j < length ws → i < length xs → (get_or xs i 0 ≡ get_or ws j 0 → ⊥) → literal_in (drop j ws) (drop i xs) ≡ stop (drop i xs)
   unfolding literal_in
-  literal-differs ws j h k e = rw (drop_more ws j 0 h, drop_more xs i 0 k, ne_eqb _ _ e)
+  literal_differs ws j h k e = rw (drop_more ws j 0 h, drop_more xs i 0 k, ne_eqb _ _ e)
 
-  pub literal-more : (ws : List ℕ) (j : ℕ) → j < length ws → i < length xs → get_or xs i 0 ≡ get_or ws j 0 → literal_in (drop j ws) (drop i xs) ≡ literal_in (drop (j + 1) ws) (drop (i + 1) xs)
+  pub literal_more : (ws : List ℕ) (j : ℕ) → j < length ws → i < length xs → get_or xs i 0 ≡ get_or ws j 0 → literal_in (drop j ws) (drop i xs) ≡ literal_in (drop (j + 1) ws) (drop (i + 1) xs)
   unfolding literal_in
-  literal-more ws j h k e = rw (drop_more ws j 0 h, drop_more xs i 0 k, eq-eqb _ _ e)
+  literal_more ws j h k e = rw (drop_more ws j 0 h, drop_more xs i 0 k, eq-eqb _ _ e)
 
-  pub digits-done : (n : ℕ) → length xs ≤ i → digits_in n (drop i xs) ≡ got n (drop i xs)
+  pub digits_done : (n : ℕ) → length xs ≤ i → digits_in n (drop i xs) ≡ got n (drop i xs)
   unfolding digits_in
-  digits-done n k = rw (drop_all i xs k)
+  digits_done n k = rw (drop_all i xs k)
 
   pub digits_end : (n : ℕ) → i < length xs → NoDigit (get_or xs i 0) → digits_in n (drop i xs) ≡ got n (drop i xs)
   unfolding digits_in
   digits_end n k d = rw (drop_more xs i 0 k, no_digit (get_or xs i 0) d)
 
-  pub digits-over : (n : ℕ) → i < length xs → 48 ≤ get_or xs i 0 → get_or xs i 0 ≤ 57 → 4294967295 < n * 10 + (get_or xs i 0 - 48) → digits_in n (drop i xs) ≡ stop (drop i xs)
+  pub digits_over : (n : ℕ) → i < length xs → 48 ≤ get_or xs i 0 → get_or xs i 0 ≤ 57 → 4294967295 < n * 10 + (get_or xs i 0 - 48) → digits_in n (drop i xs) ≡ stop (drop i xs)
   unfolding digits_in
-  digits-over n k a b o =
+  digits_over n k a b o =
       let big : 4294967296 ≤ n * 10 + (get_or xs i 0 - 48) = omega arith in
       rw (drop_more xs i 0 k, is_digit (get_or xs i 0) a b, le-ltb (n * 10 + (get_or xs i 0 - 48)) 4294967296 big)
 
@@ -54,17 +54,17 @@ module _ (xs : List ℕ) (i : ℕ) where
       let small : n * 10 + (get_or xs i 0 - 48) < 4294967296 = omega arith in
       rw (drop_more xs i 0 k, is_digit (get_or xs i 0) a b, lt-ltb (n * 10 + (get_or xs i 0 - 48)) 4294967296 small)
 
-  pub number-none : length xs ≤ i → number_in (drop i xs) ≡ stop (drop i xs)
+  pub number_none : length xs ≤ i → number_in (drop i xs) ≡ stop (drop i xs)
   unfolding number_in
-  number-none k = rw (drop_all i xs k)
+  number_none k = rw (drop_all i xs k)
 
-  pub number-zero : i < length xs → get_or xs i 0 ≡ 48 → number_in (drop i xs) ≡ got 0 (drop (i + 1) xs)
+  pub number_zero : i < length xs → get_or xs i 0 ≡ 48 → number_in (drop i xs) ≡ got 0 (drop (i + 1) xs)
   unfolding number_in
-  number-zero k e = rw (drop_more xs i 0 k, e)
+  number_zero k e = rw (drop_more xs i 0 k, e)
 
-  pub number-wrong : i < length xs → (get_or xs i 0 ≡ 48 → ⊥) → NoDigit (get_or xs i 0) → number_in (drop i xs) ≡ stop (drop i xs)
+  pub number_wrong : i < length xs → (get_or xs i 0 ≡ 48 → ⊥) → NoDigit (get_or xs i 0) → number_in (drop i xs) ≡ stop (drop i xs)
   unfolding number_in
-  number-wrong k e d = rw (drop_more xs i 0 k, ne_eqb (get_or xs i 0) 48 e, no_digit (get_or xs i 0) d)
+  number_wrong k e d = rw (drop_more xs i 0 k, ne_eqb (get_or xs i 0) 48 e, no_digit (get_or xs i 0) d)
 
   pub number_more : i < length xs → 48 < get_or xs i 0 → get_or xs i 0 ≤ 57 → number_in (drop i xs) ≡ digits_in (get_or xs i 0 - 48) (drop (i + 1) xs)
   unfolding number_in

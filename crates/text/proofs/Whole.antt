@@ -22,11 +22,11 @@ module _ (k : ℕ) (xs w : List ℕ) (n : ℕ) (b : Bool) (ew : w ≡ (shape_of 
       ∙ (ap (λ s. and_then s (λ ls zs. ended (call_of k (take n ns) ls) zs)) t
       ∙ ap (λ m. ended (call_of k (take m ns) ls) (drop j xs)) en))))
 
-  pub parse-whole : length xs ≤ j → call_in k xs ≡ got (call_of k (take (shape_of k).count ns) ls) []
-  parse-whole e = to_end ∙ ap (ended (call_of k (take (shape_of k).count ns) ls)) (drop_all j xs e)
+  pub parse_whole : length xs ≤ j → call_in k xs ≡ got (call_of k (take (shape_of k).count ns) ls) []
+  parse_whole e = to_end ∙ ap (ended (call_of k (take (shape_of k).count ns) ls)) (drop_all j xs e)
 
-  pub parse-over : j < length xs → call_in k xs ≡ stop (drop j xs)
-  parse-over e =
+  pub parse_over : j < length xs → call_in k xs ≡ stop (drop j xs)
+  parse_over e =
       let d = drop_more xs j 0 e in
       to_end ∙ (ap (ended (call_of k (take (shape_of k).count ns) ls)) d ∙ ap (λ ys. stop ys) (sym d))
 
@@ -144,24 +144,24 @@ placed xs (got ns rest) = means ns
 placed xs (stop rest) = ceases (length xs - length rest)
 
 module _ (xs : List ℕ) (i : ℕ) where
-  limits-next : (s : Step (List ℕ)) → head_in (codes "limits") 3 xs ≡ s → limits_reading xs ≡ placed xs (and_then s (λ ns ys. ended ns ys))
+  limits_next : (s : Step (List ℕ)) → head_in (codes "limits") 3 xs ≡ s → limits_reading xs ≡ placed xs (and_then s (λ ns ys. ended ns ys))
   unfolding limits_reading
-  limits-next s e = ap (λ h. placed xs (and_then h (λ ns ys. ended ns ys))) e
+  limits_next s e = ap (λ h. placed xs (and_then h (λ ns ys. ended ns ys))) e
 
   place_of : i ≤ length xs → ◌≡◌ {A = Reading (List ℕ)} (ceases (length xs - length (drop i xs))) (ceases i)
   place_of le = let at : length xs - length (drop i xs) ≡ i = simp length-drop (omega arith) in ap (λ j. ceases j) at
 
-  pub limits-stop : i ≤ length xs → head_in (codes "limits") 3 xs ≡ stop (drop i xs) → limits_reading xs ≡ ceases i
-  limits-stop le e = limits-next (stop (drop i xs)) e ∙ place_of le
+  pub limits_stop : i ≤ length xs → head_in (codes "limits") 3 xs ≡ stop (drop i xs) → limits_reading xs ≡ ceases i
+  limits_stop le e = limits_next (stop (drop i xs)) e ∙ place_of le
 
-  pub limits-over : (ns : List ℕ) → i < length xs → head_in (codes "limits") 3 xs ≡ got ns (drop i xs) → limits_reading xs ≡ ceases i
-  limits-over ns h e =
+  pub limits_over : (ns : List ℕ) → i < length xs → head_in (codes "limits") 3 xs ≡ got ns (drop i xs) → limits_reading xs ≡ ceases i
+  limits_over ns h e =
       let d = drop_more xs i 0 h in
       let le : i ≤ length xs = omega arith in
-      limits-next (got ns (drop i xs)) e
+      limits_next (got ns (drop i xs)) e
       ∙ (ap (λ ys. placed xs (ended ns ys)) d ∙ (ap (λ ys. ceases (length xs - length ys)) (sym d) ∙ place_of le))
 
-  pub limits-whole : (ns : List ℕ) → length xs ≤ i → length ns ≡ 4 → head_in (codes "limits") 3 xs ≡ got (take 3 ns) (drop i xs) → limits_reading xs ≡ means (get_or ns 0 0 ∷ (get_or ns 1 0 ∷ (get_or ns 2 0 ∷ [])))
-  limits-whole ns h four e =
-      limits-next (got (take 3 ns) (drop i xs)) e
+  pub limits_whole : (ns : List ℕ) → length xs ≤ i → length ns ≡ 4 → head_in (codes "limits") 3 xs ≡ got (take 3 ns) (drop i xs) → limits_reading xs ≡ means (get_or ns 0 0 ∷ (get_or ns 1 0 ∷ (get_or ns 2 0 ∷ [])))
+  limits_whole ns h four e =
+      limits_next (got (take 3 ns) (drop i xs)) e
       ∙ (ap (λ ys. placed xs (ended (take 3 ns) ys)) (drop_all i xs h) ∙ ap (λ ms. means (take 3 ms)) (spread 4 ns four))

@@ -46,8 +46,8 @@ module _ (t : List ℕ) (n h place : ℕ) (pos : 0 < h) (o : Over t n h place) w
   pub inner : n < 2048
   inner = omega (arith, o.last, down, leftmost_le (2 * n) (h - 1), pow_pos h)
 
-  pub over-left : place < get_or t (2 * n) 0 → Over t (2 * n) (h - 1) place
-  over-left l =
+  pub over_left : place < get_or t (2 * n) 0 → Over t (2 * n) (h - 1) place
+  over_left l =
       record {
         sums = o.sums;
         node = omega (arith, o.node);
@@ -60,8 +60,8 @@ module _ (t : List ℕ) (n h place : ℕ) (pos : 0 < h) (o : Over t n h place) w
       (k offset : ℕ) → Found t (total t 2048 (leftmost (2 * n) (h - 1) - 2048) + place) k offset → Found t (total t 2048 (leftmost n h - 2048) + place) k offset
   found_left k offset f = rw down f
 
-  pub over-right : get_or t (2 * n) 0 ≤ place → Over t (2 * n + 1) (h - 1) (place - get_or t (2 * n) 0)
-  over-right l =
+  pub over_right : get_or t (2 * n) 0 ≤ place → Over t (2 * n + 1) (h - 1) (place - get_or t (2 * n) 0)
+  over_right l =
       record {
         sums = o.sums;
         node = omega arith;

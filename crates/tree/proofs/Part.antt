@@ -10,5 +10,5 @@ module _ (a : ℕ) (xs ys : List ℕ) (start : a ≤ length xs) (long : length y
       let none : drop (length xs - a) (drop a xs) ≡ [] = drop_all (length xs - a) (drop a xs) (simp length-drop (omega arith)) in
       drop_at (take a xs) (ys ++ drop (length xs - a) (drop a xs)) a front ∙ ap (λ (zs : List ℕ). ys ++ zs) none ∙ append-nil ys
 
-  pub lent-word : (i : ℕ) → get_or (put_mid a (length xs - a) xs ys) (a + i) 0 ≡ get_or ys i 0
-  lent-word i = sym (get_or-drop a (put_mid a (length xs - a) xs ys) i 0) ∙ ap (λ (zs : List ℕ). get_or zs i 0) lent_back
+  pub lent_word : (i : ℕ) → get_or (put_mid a (length xs - a) xs ys) (a + i) 0 ≡ get_or ys i 0
+  lent_word i = sym (get_or-drop a (put_mid a (length xs - a) xs ys) i 0) ∙ ap (λ (zs : List ℕ). get_or zs i 0) lent_back

@@ -27,32 +27,32 @@ sum_fits t n pos below above light =
 
 -- a node is added up
 module _ (t : List ℕ) (n : ℕ) (pos : 0 < n) (below : n < 2048) where
-  kept-other : (j : ℕ) → j ≢ n → get_or (added t n) j 0 ≡ get_or t j 0
-  kept-other j ne = get_or-set_other t n j _ 0 ne
+  kept_other : (j : ℕ) → j ≢ n → get_or (added t n) j 0 ≡ get_or t j 0
+  kept_other j ne = get_or-set_other t n j _ 0 ne
 
-  pub kept-added : (s : List ℕ) → Kept s t → Kept s (added t n)
-  kept-added s k =
+  pub kept_added : (s : List ℕ) → Kept s t → Kept s (added t n)
+  kept_added s k =
       record {
         long = simp length-set k.long;
-        light = λ j h. rw (kept-other (2048 + j) (omega arith)) (k.light j h);
-        unused = kept-other 0 (omega arith) ∙ k.unused;
+        light = λ j h. rw (kept_other (2048 + j) (omega arith)) (k.light j h);
+        unused = kept_other 0 (omega arith) ∙ k.unused;
         same = drop-set-lt 2048 t n _ below ∙ k.same;
       }
 
-  sum-here : 4096 ≤ length t → Sum (added t n) n
-  sum-here long =
+  sum_here : 4096 ≤ length t → Sum (added t n) n
+  sum_here long =
       get_or-set_same t n _ 0 (omega arith)
-      ∙ sym (ap₂ ◌+◌ (kept-other (2 * n) (omega arith)) (kept-other (2 * n + 1) (omega arith)))
+      ∙ sym (ap₂ ◌+◌ (kept_other (2 * n) (omega arith)) (kept_other (2 * n + 1) (omega arith)))
 
   -- every other node is a sum as before, but for the parent
   pub sum_added : 4096 ≤ length t → (j : ℕ) → j ≢ n / 2 → (j ≢ n → Sum t j) → Sum (added t n) j
   sum_added long j ne was =
       elim (ℕ_discrete j n) [
-        | yes e ↦ rw e (sum-here long)
+        | yes e ↦ rw e (sum_here long)
         | no d ↦
-            let a : get_or (added t n) j 0 ≡ get_or t j 0 = kept-other j d in
-            let b : get_or (added t n) (2 * j) 0 ≡ get_or t (2 * j) 0 = kept-other (2 * j) (omega arith) in
-            let c : get_or (added t n) (2 * j + 1) 0 ≡ get_or t (2 * j + 1) 0 = kept-other (2 * j + 1) (omega arith) in
+            let a : get_or (added t n) j 0 ≡ get_or t j 0 = kept_other j d in
+            let b : get_or (added t n) (2 * j) 0 ≡ get_or t (2 * j) 0 = kept_other (2 * j) (omega arith) in
+            let c : get_or (added t n) (2 * j + 1) 0 ≡ get_or t (2 * j + 1) 0 = kept_other (2 * j + 1) (omega arith) in
             a ∙ was d ∙ sym (ap₂ ◌+◌ b c)
       ]
 
@@ -91,7 +91,7 @@ climb_more s t n c more =
     let pos : 0 < n / 2 = omega arith in
     let below : n / 2 < 2048 = omega (arith, c.high) in
     record {
-      kept = kept-added t (n / 2) pos below s c.kept;
+      kept = kept_added t (n / 2) pos below s c.kept;
       low = pos;
       high = omega arith;
       sums = λ j p h ne. sum_added t (n / 2) pos below c.kept.long j ne (λ d. c.sums j p h d);
@@ -113,6 +113,6 @@ build_more s t n b more most =
     let pos : 0 < n - 1 = omega arith in
     let below : n - 1 < 2048 = omega arith in
     record {
-      kept = kept-added t (n - 1) pos below s b.kept;
+      kept = kept_added t (n - 1) pos below s b.kept;
       above = λ j h k. sum_added t (n - 1) pos below b.kept.long j (omega arith) (λ d. b.above j (omega arith) k);
     }

@@ -10,7 +10,7 @@ use Rattle.pieces.specs.Store.{Store, cells_of}
 use Rattle.session.specs.Memory.{slots_for, cells_words, pieces_words, undo_words, tables, paper_of, Sound, opened_cells, opened_pieces}
 use Rattle.session.specs.Contract.{Fit}
 use Rattle.session.specs.Keeping.{Holds}
-use Rattle.witness.proofs.Counts.{tables_for, length_tables, table-for, marked-for, tables-fit, tables_none}
+use Rattle.witness.proofs.Counts.{tables_for, length_tables, table_for, marked_for, tables_fit, tables_none}
 use Rattle.witness.proofs.Small.{Small, OfPaper, small_append, small_zeros, cells_small, changes_small}
 use Rattle.witness.proofs.Written.{length_cells_written, length_changes_written, changes_back, text_back}
 
@@ -49,61 +49,61 @@ pub record Within (l : Limits) (p : Paper) : Type 0 where
   pub changes : length p.changes ≤ l.changes
 
 module _ (l : Limits) (p : Paper) (within : Within l p) where
-  length-row : length (row_for l p) ≡ 2 * l.changes
-  length-row =
+  length_row : length (row_for l p) ≡ 2 * l.changes
+  length_row =
       let a = length-append (changes_written p.changes) (changes_left l p) in
       let b = length_changes_written p.changes in
       let c = length-replicate {A = ℕ} (2 * l.changes - 2 * length p.changes) 0 in
       omega (arith, within.changes)
 
-  length-cells-for : length (cells_for l p) ≡ cells_words l.cells
-  length-cells-for =
+  length_cells_for : length (cells_for l p) ≡ cells_words l.cells
+  length_cells_for =
       let a = length-append (cells_written p.cells) (cells_left l p) in
       let b = length_cells_written p.cells in
       let c = length-replicate {A = ℕ} (cells_words l.cells - 4 * length p.cells) 0 in
       omega (arith, within.cells)
 
-  length-pieces-for : length (pieces_for l p) ≡ pieces_words l.changes
-  length-pieces-for =
+  length_pieces_for : length (pieces_for l p) ≡ pieces_words l.changes
+  length_pieces_for =
       let a = length-append (row_for l p) (store_for l p) in
-      let b = length-row in
+      let b = length_row in
       let c = length_tables (length p.cells) (slots_for l.cells) in
       omega arith
 
-  pub holds-for : Holds (memory_for l p) (cells_for l p) (pieces_for l p) (undo_for l)
-  holds-for = record { words = refl; cells = length-cells-for; pieces = length-pieces-for; undo = length-replicate {A = ℕ} (undo_words l.undos) 0 }
+  pub holds_for : Holds (memory_for l p) (cells_for l p) (pieces_for l p) (undo_for l)
+  holds_for = record { words = refl; cells = length_cells_for; pieces = length_pieces_for; undo = length-replicate {A = ℕ} (undo_words l.undos) 0 }
 
-  tables-are : tables (pieces_for l p) ≡ store_for l p
-  tables-are = sym (drop-drop (2 * l.changes) 16 (pieces_for l p)) ∙ drop_at (row_for l p) (store_for l p) (2 * l.changes) length-row
+  tables_are : tables (pieces_for l p) ≡ store_for l p
+  tables_are = sym (drop-drop (2 * l.changes) 16 (pieces_for l p)) ∙ drop_at (row_for l p) (store_for l p) (2 * l.changes) length_row
 
   cells_are : cells_of (cells_for l p) (tables (pieces_for l p)) (slots_for l.cells) ≡ p.cells
-  cells_are = rw tables-are (text_back (cells_for l p) (cells_left l p) p.cells (slots_for l.cells) (omega arith) (omega arith) refl)
+  cells_are = rw tables_are (text_back (cells_for l p) (cells_left l p) p.cells (slots_for l.cells) (omega arith) (omega arith) refl)
 
-  changes-are : changes_of (drop 16 (pieces_for l p)) (length p.changes) ≡ p.changes
-  changes-are =
+  changes_are : changes_of (drop 16 (pieces_for l p)) (length p.changes) ≡ p.changes
+  changes_are =
       changes_back (drop 16 (pieces_for l p)) (changes_left l p ++ store_for l p) 0 p.changes
       (append_assoc (changes_written p.changes) (changes_left l p) (store_for l p))
 
-  pub paper-is : paper_of (cells_for l p) (pieces_for l p) ≡ p
-  paper-is = ap₂ (λ (xs : List Cell) (ys : List Change). record { cells = xs; changes = ys }) cells_are changes-are
+  pub paper_is : paper_of (cells_for l p) (pieces_for l p) ≡ p
+  paper_is = ap₂ (λ (xs : List Cell) (ys : List Change). record { cells = xs; changes = ys }) cells_are changes_are
 
-  pub sound-for : Sound (cells_for l p) (pieces_for l p) (undo_for l)
-  sound-for =
-      let long-cells = length-cells-for in
-      let long-pieces = length-pieces-for in
-      let table = table-for (length p.cells) (slots_for l.cells) (omega arith) (omega arith) (omega arith) in
-      let marked = marked-for (length p.cells) (slots_for l.cells) (omega arith) (cells_for l p) in
-      let store : Store (cells_for l p) (tables (pieces_for l p)) (slots_for l.cells) = record { room = omega arith; table = rw tables-are table; marked = rw tables-are marked } in
+  pub sound_for : Sound (cells_for l p) (pieces_for l p) (undo_for l)
+  sound_for =
+      let long-cells = length_cells_for in
+      let long-pieces = length_pieces_for in
+      let table = table_for (length p.cells) (slots_for l.cells) (omega arith) (omega arith) (omega arith) in
+      let marked = marked_for (length p.cells) (slots_for l.cells) (omega arith) (cells_for l p) in
+      let store : Store (cells_for l p) (tables (pieces_for l p)) (slots_for l.cells) = record { room = omega arith; table = rw tables_are table; marked = rw tables_are marked } in
       let cells_fit : length (paper_of (cells_for l p) (pieces_for l p)).cells ≤ l.cells = rw cells_are within.cells in
       search rules
 
-  pub fit-for : OfPaper p → Fit (cells_for l p) (pieces_for l p) (undo_for l)
-  fit-for small = (
+  pub fit_for : OfPaper p → Fit (cells_for l p) (pieces_for l p) (undo_for l)
+  fit_for small = (
     small_append (cells_written p.cells) (cells_left l p) (cells_small p.cells small.cells) (small_zeros _),
     small_append (head_for l p) (row_for l p ++ store_for l p) head_small
         (small_append (row_for l p) (store_for l p)
         (small_append (changes_written p.changes) (changes_left l p) (changes_small p.changes small.changes) (small_zeros _))
-        (tables-fit (length p.cells) (slots_for l.cells) (omega arith))),
+        (tables_fit (length p.cells) (slots_for l.cells) (omega arith))),
     small_zeros (undo_words l.undos),
   )
     where

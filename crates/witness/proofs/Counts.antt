@@ -99,79 +99,79 @@ unfolding tables_for
 length_tables m s = length_built (table_word m s) 10240
 
 module _ (m s : ℕ) (most : s ≤ 2048) where
-  pub order-word : (k : ℕ) → k < s → get_or (tables_for m s) k 0 ≡ k
+  pub order_word : (k : ℕ) → k < s → get_or (tables_for m s) k 0 ≡ k
   unfolding tables_for table_word
-  order-word k h = get_or_built (table_word m s) 10240 k (omega arith) ∙ rw (lt-ltb k s h) refl
+  order_word k h = get_or_built (table_word m s) 10240 k (omega arith) ∙ rw (lt-ltb k s h) refl
 
-  spare-word : (k : ℕ) → s ≤ k → k < 2048 → get_or (tables_for m s) k 0 ≡ 0
+  spare_word : (k : ℕ) → s ≤ k → k < 2048 → get_or (tables_for m s) k 0 ≡ 0
   unfolding tables_for table_word
-  spare-word k h i = get_or_built (table_word m s) 10240 k (omega arith) ∙ rw (le-ltb k s h, lt-ltb k 2048 i) refl
+  spare_word k h i = get_or_built (table_word m s) 10240 k (omega arith) ∙ rw (le-ltb k s h, lt-ltb k 2048 i) refl
 
-  tree-word : (k : ℕ) → 2048 ≤ k → k < 6144 → get_or (tables_for m s) k 0 ≡ count m 11 (k - 2048)
+  tree_word : (k : ℕ) → 2048 ≤ k → k < 6144 → get_or (tables_for m s) k 0 ≡ count m 11 (k - 2048)
   unfolding tables_for table_word
-  tree-word k h i = get_or_built (table_word m s) 10240 k (omega arith) ∙ rw (le-ltb k s (omega arith), le-ltb k 2048 h, lt-ltb k 6144 i) refl
+  tree_word k h i = get_or_built (table_word m s) 10240 k (omega arith) ∙ rw (le-ltb k s (omega arith), le-ltb k 2048 h, lt-ltb k 6144 i) refl
 
   set_word : (k : ℕ) → 6144 ≤ k → k < 10240 → get_or (tables_for m s) k 0 ≡ set_of m
   unfolding tables_for table_word
   set_word k h i = get_or_built (table_word m s) 10240 k i ∙ rw (le-ltb k s (omega arith), le-ltb k 2048 (omega arith), le-ltb k 6144 h) refl
 
-  all-marks : 0 < m → (i n : ℕ) → i < 2048 → Has (tables_for m s) i n
-  all-marks some i n h =
+  all_marks : 0 < m → (i n : ℕ) → i < 2048 → Has (tables_for m s) i n
+  all_marks some i n h =
       record {
         low = rw (set_word (6144 + i) (omega arith) (omega arith), lt-ltb 0 m some) (ones_bit 32 (n % 32) (omega arith));
         high = rw (set_word (8192 + i) (omega arith) (omega arith), lt-ltb 0 m some) (ones_bit 32 (n / 32 % 32) (omega arith));
       }
 
-  node-word : (i : ℕ) → i < 4096 → get_or (drop 2048 (tables_for m s)) i 0 ≡ count m 11 i
-  node-word i h =
+  node_word : (i : ℕ) → i < 4096 → get_or (drop 2048 (tables_for m s)) i 0 ≡ count m 11 i
+  node_word i h =
       let e : 2048 + i - 2048 ≡ i = omega arith in
-      get_or-drop 2048 (tables_for m s) i 0 ∙ tree-word (2048 + i) (omega arith) (omega arith) ∙ ap (count m 11) e
+      get_or-drop 2048 (tables_for m s) i 0 ∙ tree_word (2048 + i) (omega arith) (omega arith) ∙ ap (count m 11) e
 
-  pub used-word : (k : ℕ) → k < 2048 → used (tables_for m s) k ≡ share m k
-  used-word k h =
+  pub used_word : (k : ℕ) → k < 2048 → used (tables_for m s) k ≡ share m k
+  used_word k h =
       let e : 4096 + k - 2048 - 2048 ≡ k = omega arith in
-      tree-word (4096 + k) (omega arith) (omega arith) ∙ count_leaf m 11 (4096 + k - 2048) (omega arith) ∙ ap (share m) e
+      tree_word (4096 + k) (omega arith) (omega arith) ∙ count_leaf m 11 (4096 + k - 2048) (omega arith) ∙ ap (share m) e
 
-  pub table-for : 0 < s → m ≤ 1024 * s → Table (tables_for m s) s
-  table-for some room = record {
+  pub table_for : 0 < s → m ≤ 1024 * s → Table (tables_for m s) s
+  table_for some room = record {
     order = record {
       some = some;
       most = most;
       words = let e = length_tables m s in omega arith;
-      inside = λ k h. rw (order-word k h) h;
-      apart = λ j k h i e. sym (order-word j h) ∙ e ∙ order-word k i;
-      small = λ k h. rw (used-word k (omega arith)) (omega arith);
-      idle = λ k h i. used-word k i ∙ (let e : share m k ≡ 0 = omega arith in e);
+      inside = λ k h. rw (order_word k h) h;
+      apart = λ j k h i e. sym (order_word j h) ∙ e ∙ order_word k i;
+      small = λ k h. rw (used_word k (omega arith)) (omega arith);
+      idle = λ k h i. used_word k i ∙ (let e : share m k ≡ 0 = omega arith in e);
     };
     sums = record {
       long = simp length-drop (let e = length_tables m s in omega arith);
       sums = λ i h j.
-          let a = node-word i (omega arith) in let b = node-word (2 * i) (omega arith) in let d = node-word (2 * i + 1) (omega arith) in
+          let a = node_word i (omega arith) in let b = node_word (2 * i) (omega arith) in let d = node_word (2 * i + 1) (omega arith) in
           omega (arith, count_sum m i h j);
-      light = λ j h. let a = node-word (2048 + j) (omega arith) in let b = count_leaf m 11 (2048 + j) (omega arith) in omega arith;
+      light = λ j h. let a = node_word (2048 + j) (omega arith) in let b = count_leaf m 11 (2048 + j) (omega arith) in omega arith;
     };
   }
 
-  pub marked-for : (c : List ℕ) → Marked c (tables_for m s) s
+  pub marked_for : (c : List ℕ) → Marked c (tables_for m s) s
   unfolding piece cells_at
-  marked-for c k h =
+  marked_for c k h =
       let t = tables_for m s in
       elim (cases_lt 0 m) [
         | inl some ↦ All-from_get_or (Marks t (slot t k)) (piece c t k) no_cell
-            (λ i l. let e = order-word k h in record { put_in = λ x. all-marks some (slot t k) _ (omega arith); struck = λ x. all-marks some (slot t k) _ (omega arith) })
-        | inr none ↦ let e : used t k ≡ 0 = used-word k (omega arith) ∙ (let f : share m k ≡ 0 = omega arith in f) in rw e tt
+            (λ i l. let e = order_word k h in record { put_in = λ x. all_marks some (slot t k) _ (omega arith); struck = λ x. all_marks some (slot t k) _ (omega arith) })
+        | inr none ↦ let e : used t k ≡ 0 = used_word k (omega arith) ∙ (let f : share m k ≡ 0 = omega arith in f) in rw e tt
       ]
 
   -- every word fits four bytes
-  pub tables-fit : (i : ℕ) → get_or (tables_for m s) i 0 < 4294967296
-  tables-fit i =
+  pub tables_fit : (i : ℕ) → get_or (tables_for m s) i 0 < 4294967296
+  tables_fit i =
       let long = length_tables m s in
       elim (cases_lt i s) [
-        | inl a ↦ rw (order-word i a) (omega arith)
+        | inl a ↦ rw (order_word i a) (omega arith)
         | inr a ↦ elim (cases_lt i 2048) [
-          | inl b ↦ rw (spare-word i a b) (omega arith)
+          | inl b ↦ rw (spare_word i a b) (omega arith)
           | inr b ↦ elim (cases_lt i 6144) [
-            | inl d ↦ rw (tree-word i b d) (omega (arith, count_small m 11 (i - 2048)))
+            | inl d ↦ rw (tree_word i b d) (omega (arith, count_small m 11 (i - 2048)))
             | inr d ↦ elim (cases_lt i 10240) [
               | inl e ↦ rw (set_word i d e) (elim (cases_lt 0 m) [ inl f ↦ rw (lt-ltb 0 m f) (omega arith) | inr f ↦ rw (le-ltb 0 m f) (omega arith) ])
               | inr e ↦ rw (get_or_past (tables_for m s) i 0 (omega arith)) (omega arith)
@@ -199,12 +199,12 @@ tables_none s most =
               let front = length-range_with_len 0 s in
               let e : get_or (range_with_len 0 s) i 0 ≡ 0 + i = get_or-range_with_len 0 s i 0 a in
               let f : get_or (range_with_len 0 s ++ replicate (10240 - s) 0) i 0 ≡ get_or (range_with_len 0 s) i 0 = get_or_append_left (range_with_len 0 s) (replicate (10240 - s) 0) 0 i (omega arith) in
-              let g = order-word 0 s most i a in
+              let g = order_word 0 s most i a in
               omega arith
           | inr a ↦ elim (cases_lt i 2048) [
-            | inl b ↦ spare-word 0 s most i a b ∙ sym (zeros i a h)
+            | inl b ↦ spare_word 0 s most i a b ∙ sym (zeros i a h)
             | inr b ↦ elim (cases_lt i 6144) [
-              | inl d ↦ tree-word 0 s most i b d ∙ count_none 11 (i - 2048) ∙ sym (zeros i a h)
+              | inl d ↦ tree_word 0 s most i b d ∙ count_none 11 (i - 2048) ∙ sym (zeros i a h)
               | inr d ↦ set_word 0 s most i d h ∙ sym (zeros i a h)
             ]
           ]

@@ -14,7 +14,7 @@ use Rattle.session.specs.Memory.{cells_words, pieces_words, undo_words, limits_o
 use Rattle.session.specs.Contract.{Does, Fit}
 use Rattle.session.specs.Keeping.{Holds, Opens, Calls, SomeKeeper}
 use Rattle.witness.proofs.Small.{OfPaper, rewritten_small, row_small, text_small}
-use Rattle.witness.proofs.Canonical.{Within, cells_for, pieces_for, undo_for, memory_for, holds-for, paper-is, sound-for, fit-for, empty, opened_cells_are, opened_pieces_are}
+use Rattle.witness.proofs.Canonical.{Within, cells_for, pieces_for, undo_for, memory_for, holds_for, paper_is, sound_for, fit_for, empty, opened_cells_are, opened_pieces_are}
 
 -- the slices in one list of words
 abbrev pieces_in : Memory → List ℕ
@@ -143,9 +143,9 @@ module _ (m : Memory) (cs ps us : List ℕ) (holds : Holds m cs ps us) (sound : 
     write_done : Calls cs ps us c (memory_for (limits_of ps) new) (says_in cs ps c)
     write_done =
         let rs : List ℕ = answer_bytes (says_in cs ps c) in
-        let right : Sound cs' ps' us' = sound-for (limits_of ps) new within in
-        let is : paper_of cs' ps' ≡ new = paper-is (limits_of ps) new within in
-        let long : Holds (memory_for (limits_of ps) new) cs' ps' us' = holds-for (limits_of ps) new within in
+        let right : Sound cs' ps' us' = sound_for (limits_of ps) new within in
+        let is : paper_of cs' ps' ≡ new = paper_is (limits_of ps) new within in
+        let long : Holds (memory_for (limits_of ps) new) cs' ps' us' = holds_for (limits_of ps) new within in
         let does : Does (call_is c) cs ps us cs' ps' us' rs =
         λ d st.
         let same : turned (limits_of ps) d c ≡ 0 = turned_same d c st.paper ∙ done in
@@ -173,30 +173,30 @@ module _ (m : Memory) (cs ps us : List ℕ) (holds : Holds m cs ps us) (sound : 
               pieces_length = long.pieces ∙ sym holds.pieces;
               undo_length = long.undo ∙ sym holds.undo;
             };
-            fit = fit-for (limits_of ps) new within new_small;
+            fit = fit_for (limits_of ps) new within new_small;
           };
         }
 
-  write-calls : (c : Call) → readable c ≡ true → writes c ≡ true → (t : Bool) → eqb (turned (limits_of ps) (bare paper) c) 0 ≡ t →
+  write_calls : (c : Call) → readable c ≡ true → writes c ≡ true → (t : Bool) → eqb (turned (limits_of ps) (bare paper) c) 0 ≡ t →
       Calls cs ps us c (pick t (memory_for (limits_of ps) (rewritten paper c)) m) (says_in cs ps c)
-  write-calls c h w true e = write_done c h w (eqb-true _ _ e)
-  write-calls c h w false e =
+  write_calls c h w true e = write_done c h w (eqb-true _ _ e)
+  write_calls c h w false e =
       still c h λ d k. let f : eqb (turned (limits_of ps) d c) 0 ≡ false = ap (λ (n : ℕ). eqb n 0) (turned_same d c k) ∙ e in rw f refl
 
-  calls-in : (c : Call) → readable c ≡ true → Calls cs ps us c (next_in cs ps m c) (says_in cs ps c)
+  calls_in : (c : Call) → readable c ≡ true → Calls cs ps us c (next_in cs ps m c) (says_in cs ps c)
   unfolding call_number writes moved
-  calls-in (put a i s ls) h = write-calls (put a i s ls) h refl _ refl
-  calls-in (strikes a i n) h = write-calls (strikes a i n) h refl _ refl
-  calls-in (accepts c) h = write-calls (accepts c) h refl _ refl
-  calls-in (rejects c) h = write-calls (rejects c) h refl _ refl
-  calls-in (styles i n s) h = write-calls (styles i n s) h refl _ refl
-  calls-in undo h = still undo h (λ d k. refl)
-  calls-in redo h = still redo h (λ d k. refl)
-  calls-in (show k w r n) h = still (show k w r n) h (λ d e. pick_same _ d)
-  calls-in (find k i ls) h = still (find k i ls) h (λ d e. refl)
-  calls-in (count k) h = still (count k) h (λ d e. pick_same _ d)
-  calls-in (change c) h = still (change c) h (λ d e. pick_same _ d)
-  calls-in (save i n) h = still (save i n) h (λ d k. refl)
+  calls_in (put a i s ls) h = write_calls (put a i s ls) h refl _ refl
+  calls_in (strikes a i n) h = write_calls (strikes a i n) h refl _ refl
+  calls_in (accepts c) h = write_calls (accepts c) h refl _ refl
+  calls_in (rejects c) h = write_calls (rejects c) h refl _ refl
+  calls_in (styles i n s) h = write_calls (styles i n s) h refl _ refl
+  calls_in undo h = still undo h (λ d k. refl)
+  calls_in redo h = still redo h (λ d k. refl)
+  calls_in (show k w r n) h = still (show k w r n) h (λ d e. pick_same _ d)
+  calls_in (find k i ls) h = still (find k i ls) h (λ d e. refl)
+  calls_in (count k) h = still (count k) h (λ d e. pick_same _ d)
+  calls_in (change c) h = still (change c) h (λ d e. pick_same _ d)
+  calls_in (save i n) h = still (save i n) h (λ d k. refl)
 
 -- a list that is just as long as asked for, as opening has it
 exact : (k : ℕ) (xs ys : List ℕ) → xs ≡ ys → length xs ≡ k → xs ≡ ys ++ drop k xs
@@ -205,7 +205,7 @@ exact k xs ys e l = e ∙ sym (append-nil ys) ∙ ap (λ (zs : List ℕ). ys ++ 
 opens_in : (l : Limits) → GoodLimits l → Opens l (memory_for l empty)
 opens_in l good =
     let within : Within l empty = record { good = good; cells = omega arith; changes = omega arith } in
-    let holds : Holds (memory_for l empty) (cells_for l empty) (pieces_for l empty) (undo_for l) = holds-for l empty within in
+    let holds : Holds (memory_for l empty) (cells_for l empty) (pieces_for l empty) (undo_for l) = holds_for l empty within in
     record {
       cells = cells_for l empty;
       pieces = pieces_for l empty;
@@ -218,8 +218,8 @@ opens_in l good =
         cells = exact (cells_words l.cells) (cells_for l empty) _ (opened_cells_are l) holds.cells;
         pieces = exact (pieces_words l.changes) (pieces_for l empty) _ (opened_pieces_are l good) holds.pieces;
         undo = exact (undo_words l.undos) (undo_for l) (opened_undo l.undos) refl holds.undo;
-        stands = record { sound = sound-for l empty within; paper = sym (paper-is l empty within) };
-        fit = fit-for l empty within (record { cells = tt; changes = tt });
+        stands = record { sound = sound_for l empty within; paper = sym (paper_is l empty within) };
+        fit = fit_for l empty within (record { cells = tt; changes = tt });
       };
     }
 
@@ -232,6 +232,6 @@ some_keeper = (
         let s = slices m cs ps us holds in
         let a : cells_in m ≡ cs = s.0 in
         let b : pieces_in m ≡ ps = s.1 in
-        rw (a, b) (calls-in m cs ps us holds sound fit c h);
+        rw (a, b) (calls_in m cs ps us holds sound fit c h);
   },
 )

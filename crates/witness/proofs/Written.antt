@@ -8,7 +8,7 @@ use Rattle.slots.specs.Cells.{cell_at, cells_at}
 use Rattle.slots.proofs.Words.{cells_split}
 use Rattle.pieces.specs.Store.{slot, used, piece, strung}
 use Rattle.pieces.proofs.Strung.{strung_zero, strung_more}
-use Rattle.witness.proofs.Counts.{share, tables_for, order-word, used-word}
+use Rattle.witness.proofs.Counts.{share, tables_for, order_word, used_word}
 
 pub length_cells_written : (xs : List Cell) → length (cells_written xs) ≡ 4 * length xs
 unfolding cells_written
@@ -59,8 +59,8 @@ pieces_back c m s most (suc k) l =
     let p : List ℕ = tables_for m s in
     let before : strung (piece c p) 0 k ≡ cells_at c 0 (min (1024 * k) m) = pieces_back c m s most k (omega arith) in
     let more : strung (piece c p) 0 (suc k) ≡ strung (piece c p) 0 k ++ piece c p k = strung_more (piece c p) k in
-    let a : slot p k ≡ k = order-word m s most k (omega arith) in
-    let b : used p k ≡ share m k = used-word m s most k (omega arith) in
+    let a : slot p k ≡ k = order_word m s most k (omega arith) in
+    let b : used p k ≡ share m k = used_word m s most k (omega arith) in
     let here : piece c p k ≡ cells_at c (1024 * k) (share m k) = rw (a, b) refl in
     let joined : cells_at c 0 (min (1024 * k) m) ++ cells_at c (1024 * k) (share m k) ≡ cells_at c 0 (min (1024 * suc k) m) =
     elim (cases_lt (1024 * k) m) [

@@ -2,7 +2,7 @@
 use Rattle.std.proofs.Common.{◌≡◌, ◌+◌, ◌<◌, ◌≤◌, length, get_or, drop, arith}
 use Rattle.std.proofs.lemmas.List.{take_rest}
 use Rattle.codec.specs.Reading.{head_length, whole_length}
-use Rattle.codec.proofs.Readings.{no_byte, no_call, few-fields, few-letters, too_many, whole}
+use Rattle.codec.proofs.Readings.{no_byte, no_call, few_fields, few_letters, too_many, whole}
 use Rattle.codec.proofs.read.Goals as goal
 use Rattle.codec.proofs.read.Goals.{then-len-eq0-via-then-len-eq0, then-len-eq0-via-else-len-eq0+then-bytes-ge12}
 
@@ -17,14 +17,14 @@ pub returns-then-len-head : goal.returns-then-len-head
 returns-then-len-head c =
     let bs = c.args.bytes.now in
     let h : length bs < head_length (get_or bs 0 0) = rw c.head_length-head.ensures at c.if-len-head.true in
-    (few-fields bs c.if-len-eq0.false c.if-bytes-ge12.false h, omega arith)
+    (few_fields bs c.if-len-eq0.false c.if-bytes-ge12.false h, omega arith)
 
 pub returns-then-len-whole : goal.returns-then-len-whole
 returns-then-len-whole c =
     let bs = c.args.bytes.now in
     let e : head_length (get_or bs 0 0) ≤ length bs = rw c.head_length-head.ensures at c.if-len-head.false in
     let h : length bs < whole_length bs = rw (c.head_length-head.ensures, c.letter_count.ensures) at c.if-len-whole.true in
-    (few-letters bs c.if-len-eq0.false c.if-bytes-ge12.false e h, omega arith)
+    (few_letters bs c.if-len-eq0.false c.if-bytes-ge12.false e h, omega arith)
 
 pub returns-then-whole-len : goal.returns-then-whole-len
 returns-then-whole-len c =

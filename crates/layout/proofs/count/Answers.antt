@@ -1,7 +1,7 @@
 use Rattle.std.proofs.Common.{◌≡◌, ◌<◌, length, ap, arith}
 use Rattle.model.specs.Values.{cell_of}
 use Rattle.pieces.specs.Store.{used}
-use Rattle.layout.proofs.Spots.{left-seen, left-unseen, left_next, left_end, left_all, left_few}
+use Rattle.layout.proofs.Spots.{left_seen, left_unseen, left_next, left_end, left_all, left_few}
 use Rattle.layout.proofs.count.Goals as goal
 use Rattle.layout.proofs.count.Goals.{then-sees, else-sees}
 
@@ -14,10 +14,10 @@ loop-j-preserved c =
     let h : c.loop-j.j < used c.args.p.now c.loop-k.k = omega arith in
     elim c.if-sees.branch [
       | then-sees w ↦
-          let e = ap length (left-seen c.args.c.now c.args.p.now c.args.s c.args.way c.loop-k.k c.loop-j.j (cell_of c.cell.result) c.loop-k-test.true h c.cell.ensures w.if-sees.ensures) in
+          let e = ap length (left_seen c.args.c.now c.args.p.now c.args.s c.args.way c.loop-k.k c.loop-j.j (cell_of c.cell.result) c.loop-k-test.true h c.cell.ensures w.if-sees.ensures) in
           omega arith
       | else-sees w ↦
-          let e = ap length (left-unseen c.args.c.now c.args.p.now c.args.s c.args.way c.loop-k.k c.loop-j.j (cell_of c.cell.result) c.loop-k-test.true h c.cell.ensures w.if-sees.ensures) in
+          let e = ap length (left_unseen c.args.c.now c.args.p.now c.args.s c.args.way c.loop-k.k c.loop-j.j (cell_of c.cell.result) c.loop-k-test.true h c.cell.ensures w.if-sees.ensures) in
           omega arith
     ]
 

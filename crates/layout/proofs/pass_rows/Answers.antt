@@ -1,5 +1,5 @@
 use Rattle.std.proofs.Common.{arith}
-use Rattle.layout.proofs.Passed.{pass_start, pass-none, pass-more}
+use Rattle.layout.proofs.Passed.{pass_start, pass_none, pass_more}
 use Rattle.layout.proofs.pass_rows.Goals as goal
 
 pub loop-i-init : goal.loop-i-init
@@ -7,8 +7,8 @@ loop-i-init c = pass_start _ _ _ _ _ _ c.requires.from
 
 pub returns-in_err-spot : goal.returns-in_err-spot
 returns-in_err-spot c =
-    let e = pass-none _ _ _ _ _ _ _ _ c.requires.least c.loop-i.invariant c.in_err-spot.ensures in
+    let e = pass_none _ _ _ _ _ _ _ _ c.requires.least c.loop-i.invariant c.in_err-spot.ensures in
     simp c.from_residual.ensures (omega arith)
 
 pub loop-i-preserved : goal.loop-i-preserved
-loop-i-preserved c = pass-more _ _ _ _ _ _ _ _ c.requires.least c.loop-i.invariant c.in_ok-spot.field-0 c.in_ok-spot.ensures
+loop-i-preserved c = pass_more _ _ _ _ _ _ _ _ c.requires.least c.loop-i.invariant c.in_ok-spot.field-0 c.in_ok-spot.ensures

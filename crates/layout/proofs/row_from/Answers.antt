@@ -1,8 +1,8 @@
 use Rattle.std.proofs.Common.{◌≡◌, ◌<◌, sym, inl, inr, arith}
 use Rattle.model.specs.Values.{cell_of}
 use Rattle.pieces.specs.Store.{used}
-use Rattle.layout.proofs.Spots.{left-unseen, left_next}
-use Rattle.layout.proofs.Found.{sought-end, sought-more, sought-full, sought_same, sought-none, sought-all}
+use Rattle.layout.proofs.Spots.{left_unseen, left_next}
+use Rattle.layout.proofs.Found.{sought_end, sought_more, sought_full, sought_same, sought_none, sought_all}
 use Rattle.layout.proofs.row_from.Goals as goal
 use Rattle.layout.proofs.row_from.Goals.{then-sees+else-x-eq-END+else-long-width, else-sees, then-x-eq-SPACE, else-x-eq-SPACE}
 
@@ -13,7 +13,7 @@ loop-j-preserved c =
     elim c.if-sees.branch [
       | then-sees+else-x-eq-END+else-long-width w ↦
           simp (w.long-is, w.space-is)
-          (sought-more _ _ _ _ _ _ _ _ _ _ x c.loop-j.invariant c.loop-k-test.true h c.cell-x.ensures w.if-sees.ensures w.if-x-eq-END.false w.if-long-width.false
+          (sought_more _ _ _ _ _ _ _ _ _ _ x c.loop-j.invariant c.loop-k-test.true h c.cell-x.ensures w.if-sees.ensures w.if-x-eq-END.false w.if-long-width.false
           w.if-x-eq-SPACE.space
           (elim w.if-x-eq-SPACE.branch [
             | then-x-eq-SPACE v ↦ inl (v.if-x-eq-SPACE.true, v.space-is)
@@ -21,7 +21,7 @@ loop-j-preserved c =
           ]))
       | else-sees w ↦
           simp (w.long-is, w.space-is)
-          (sought_same _ _ _ _ _ _ _ _ _ _ _ _ (left-unseen _ _ _ _ _ _ x c.loop-k-test.true h c.cell-x.ensures w.if-sees.ensures) c.loop-j.invariant)
+          (sought_same _ _ _ _ _ _ _ _ _ _ _ _ (left_unseen _ _ _ _ _ _ x c.loop-k-test.true h c.cell-x.ensures w.if-sees.ensures) c.loop-j.invariant)
     ]
 
 pub loop-k-preserved : goal.loop-k-preserved
@@ -33,12 +33,12 @@ loop-k-preserved c =
 pub returns-then-x-eq-END : goal.returns-then-x-eq-END
 returns-then-x-eq-END c =
     let h : c.loop-j.j < used c.args.p.now c.loop-k.k = omega arith in
-    sought-end _ _ _ _ _ _ _ _ _ _ (cell_of c.cell-x.result) c.loop-j.invariant c.loop-k-test.true h c.cell-x.ensures c.if-sees.ensures c.if-x-eq-END.true
+    sought_end _ _ _ _ _ _ _ _ _ _ (cell_of c.cell-x.result) c.loop-j.invariant c.loop-k-test.true h c.cell-x.ensures c.if-sees.ensures c.if-x-eq-END.true
 
 pub returns-then-long-width : goal.returns-then-long-width
 returns-then-long-width c =
     let h : c.loop-j.j < used c.args.p.now c.loop-k.k = omega arith in
-    sought-full _ _ _ _ _ _ _ _ _ _ (cell_of c.cell-x.result) c.loop-j.invariant c.loop-k-test.true h c.cell-x.ensures c.if-sees.ensures c.if-x-eq-END.false
+    sought_full _ _ _ _ _ _ _ _ _ _ (cell_of c.cell-x.result) c.loop-j.invariant c.loop-k-test.true h c.cell-x.ensures c.if-sees.ensures c.if-x-eq-END.false
     c.if-long-width.true c.if-x-eq-SPACE.space
     (elim c.if-x-eq-SPACE.branch [
       | then-x-eq-SPACE v ↦ inl (v.if-x-eq-SPACE.true, v.space-is)
@@ -47,7 +47,7 @@ returns-then-long-width c =
     c.unwrap_or.result c.unwrap_or.ensures
 
 pub returns-then-long-eq0 : goal.returns-then-long-eq0
-returns-then-long-eq0 c = let h : c.loop-k.k ≡ c.args.s = omega arith in sought-none _ _ _ _ _ _ _ _ _ _ c.loop-k.invariant.0 h c.if-long-eq0.true
+returns-then-long-eq0 c = let h : c.loop-k.k ≡ c.args.s = omega arith in sought_none _ _ _ _ _ _ _ _ _ _ c.loop-k.invariant.0 h c.if-long-eq0.true
 
 pub returns-else-long-eq0 : goal.returns-else-long-eq0
-returns-else-long-eq0 c = let h : c.loop-k.k ≡ c.args.s = omega arith in sought-all _ _ _ _ _ _ _ _ _ _ c.loop-k.invariant.0 h c.if-long-eq0.false
+returns-else-long-eq0 c = let h : c.loop-k.k ≡ c.args.s = omega arith in sought_all _ _ _ _ _ _ _ _ _ _ c.loop-k.invariant.0 h c.if-long-eq0.false

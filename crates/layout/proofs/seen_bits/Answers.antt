@@ -3,7 +3,7 @@ use Rattle.model.specs.Paper.{seen}
 use Rattle.model.specs.Values.{cell_of}
 use Rattle.pieces.specs.Store.{used}
 use Rattle.layout.proofs.Bits.{up_to}
-use Rattle.layout.proofs.Spans.{span_none, span_more, span_small, span-bit}
+use Rattle.layout.proofs.Spans.{span_none, span_more, span_small, span_bit}
 use Rattle.layout.proofs.seen_bits.Goals as goal
 
 pub loop-j-init : goal.loop-j-init
@@ -34,4 +34,4 @@ loop-j-preserved c =
 pub returns : goal.returns
 returns c =
     let z : c.loop-j.j ≡ 0 = omega arith in
-    span-bit c.args.c.now c.args.p.now c.args.s c.args.k c.args.from c.args.way c.requires.here c.loop-j.bits c.loop-j.j c.loop-j.invariant.0 z
+    span_bit c.args.c.now c.args.p.now c.args.s c.args.k c.args.from c.args.way c.requires.here c.loop-j.bits c.loop-j.j c.loop-j.invariant.0 z

@@ -1,4 +1,4 @@
-use Rattle.layout.proofs.Shown.{too_few, too-few-after, shows}
+use Rattle.layout.proofs.Shown.{too_few, too_few_after, shows}
 use Rattle.layout.proofs.show.Goals as goal
 
 pub returns-in_err-from : goal.returns-in_err-from
@@ -9,7 +9,7 @@ returns-in_err-from c =
 pub returns-in_err-pass_rows : goal.returns-in_err-pass_rows
 returns-in_err-pass_rows c =
     simp c.from_residual-in_err-pass_rows.ensures
-    (too-few-after c.args.c.now c.args.p.now c.args.s c.args.way c.args.width c.requires.least c.args.first c.in_ok-from.from c.in_ok-from.ensures
+    (too_few_after c.args.c.now c.args.p.now c.args.s c.args.way c.args.width c.requires.least c.args.first c.in_ok-from.from c.in_ok-from.ensures
     c.args.n c.args.out.now c.in_err-pass_rows.ensures)
 
 pub returns : goal.returns

@@ -5,13 +5,13 @@ use Rattle.pieces.specs.declared.Spot.{Spot}
 use Rattle.layout.specs.Spots.{Inside}
 use Rattle.layout.specs.Found.{ahead}
 use Rattle.layout.proofs.Found.{is_found, found_row}
-use Rattle.layout.proofs.Written.{rows-some, row_inside, row_room, rows_more, rows_done}
+use Rattle.layout.proofs.Written.{rows_some, row_inside, row_room, rows_more, rows_done}
 use Rattle.layout.proofs.write_rows.Goals as goal
 
 pub unwrap-row-requires : goal.unwrap-row-requires
 unwrap-row-requires c =
     let e : c.args.n - c.loop-i._i ≡ suc (c.args.n - (c.loop-i._i + 1)) = omega arith in
-    is_found _ _ _ _ _ _ _ c.row_from.ensures (rows-some _ c.requires.least _ _ _ _ _ _ _ _ c.loop-i.invariant.0 _ e)
+    is_found _ _ _ _ _ _ _ c.row_from.ensures (rows_some _ c.requires.least _ _ _ _ _ _ _ _ c.loop-i.invariant.0 _ e)
 
 pub number-at-requires : goal.number-at-requires
 number-at-requires c =

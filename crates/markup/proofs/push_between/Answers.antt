@@ -3,7 +3,7 @@ use Rattle.model.specs.Values.{change_of}
 use Rattle.printing.specs.Values.{cell_of}
 use Rattle.printing.proofs.Joins.{join2, join3, same}
 use Rattle.markup.specs.Marked.{opened}
-use Rattle.markup.proofs.Writes.{between-end, between_none, between-new}
+use Rattle.markup.proofs.Writes.{between_end, between_none, between_new}
 use Rattle.markup.proofs.push_between.Goals as goal
 
 pub returns-then-x-eq-END : goal.returns-then-x-eq-END
@@ -13,7 +13,7 @@ returns-then-x-eq-END c =
     c.close_of.ensures c.in_ok-extend_from_slice.ensures.items
     (same (codes "</p><p>")) c.in_ok-extend_from_slice-2.ensures.items
     (same (opened cs (cell_of c.args.y))) c.in_ok-push_open.ensures
-    ∙ ap (λ ls. vec_items c.args.out.now ++ ls) (between-end cs (cell_of c.args.x) (cell_of c.args.y) c.if-x-eq-END.true)
+    ∙ ap (λ ls. vec_items c.args.out.now ++ ls) (between_end cs (cell_of c.args.x) (cell_of c.args.y) c.if-x-eq-END.true)
 
 pub returns-then-alike : goal.returns-then-alike
 returns-then-alike c =
@@ -25,4 +25,4 @@ returns c =
     join2 (vec_items c.args.out.now)
     c.close_of-2.ensures c.in_ok-extend_from_slice-3.ensures.items
     (same (opened cs (cell_of c.args.y))) c.in_ok-push_open-2.ensures
-    ∙ ap (λ ls. vec_items c.args.out.now ++ ls) (between-new cs (cell_of c.args.x) (cell_of c.args.y) c.if-x-eq-END.false (sym c.alike.ensures ∙ c.if-alike.false))
+    ∙ ap (λ ls. vec_items c.args.out.now ++ ls) (between_new cs (cell_of c.args.x) (cell_of c.args.y) c.if-x-eq-END.false (sym c.alike.ensures ∙ c.if-alike.false))

@@ -1,6 +1,6 @@
 use Rattle.std.proofs.Common.{◌≡◌, arith}
 use Rattle.pieces.specs.Store.{cleared_words}
-use Rattle.pieces.proofs.Cleared.{cleared_is, cleared-table, cleared-text, cleared-marked}
+use Rattle.pieces.proofs.Cleared.{cleared_is, cleared_table, cleared_text, cleared_marked}
 use Rattle.pieces.proofs.clear.Goals as goal
 
 pub returns : goal.returns
@@ -13,8 +13,8 @@ returns c =
       words = e;
       store = record {
         room = omega (arith, c.zero.auto.w);
-        table = rw e (cleared-table p s c.requires.most c.requires.words c.requires.some);
-        marked = rw e (cleared-marked p s c.requires.most c.requires.words c.zero.new.w);
+        table = rw e (cleared_table p s c.requires.most c.requires.words c.requires.some);
+        marked = rw e (cleared_marked p s c.requires.most c.requires.words c.zero.new.w);
       };
-      empty = rw e (cleared-text p s c.requires.most c.requires.words c.zero.new.w);
+      empty = rw e (cleared_text p s c.requires.most c.requires.words c.zero.new.w);
     }

@@ -1,7 +1,7 @@
 use Rattle.std.proofs.Common.{◌≡◌, ◌-◌, ◌∙◌, arith}
 use Rattle.pieces.specs.Edits.{Packed}
 use Rattle.pieces.proofs.Packs.{packed_spare, packed_start, same_before, same_none}
-use Rattle.pieces.proofs.Cuts.{recounted, recounted-used, same_both}
+use Rattle.pieces.proofs.Cuts.{recounted, recounted_used, same_both}
 use Rattle.pieces.proofs.repack.Goals as goal
 
 pub returns : goal.returns
@@ -17,7 +17,7 @@ returns c =
       same = same_both c.args.c.now c.args.p.now c.loop-j.c c.loop-j.p c.loop-j.c c.recount.new.p s inv.0
           (recounted c.loop-j.c c.loop-j.p c.recount.new.p s o c.recount.ensures.same);
       sums = c.recount.ensures.sums;
-      spare = λ l. recounted-used c.loop-j.c c.loop-j.p c.recount.new.p s o c.recount.ensures.same (s - 1) (omega arith)
+      spare = λ l. recounted_used c.loop-j.c c.loop-j.p c.recount.new.p s o c.recount.ensures.same (s - 1) (omega arith)
           ∙ packed_spare c.loop-j.p s c.loop-j.i some packed (omega arith) (omega arith);
     }
 

@@ -1,5 +1,5 @@
 use Rattle.std.proofs.Common.{arith}
-use Rattle.pieces.proofs.Cuts.{rotated-order, rotated-next, rotated-here, cut}
+use Rattle.pieces.proofs.Cuts.{rotated_order, rotated_next, rotated_here, cut}
 use Rattle.pieces.proofs.split.Goals as goal
 
 pub shift-requires : goal.shift-requires
@@ -9,9 +9,9 @@ shift-requires c =
     let s = c.args.s in
     let k = c.args.k in
     let w = c.requires.store.table.order in
-    let w' = rotated-order p c.rotate.new.p r s k w c.requires.here c.rotate.ensures c.rotate-2.ensures in
-    let next = rotated-next p c.rotate.new.p r s k w c.requires.here c.rotate.ensures c.rotate-2.ensures c.requires.spare in
-    let here = rotated-here p c.rotate.new.p r s k w c.requires.here c.rotate.ensures c.rotate-2.ensures c.requires.spare in
+    let w' = rotated_order p c.rotate.new.p r s k w c.requires.here c.rotate.ensures c.rotate-2.ensures in
+    let next = rotated_next p c.rotate.new.p r s k w c.requires.here c.rotate.ensures c.rotate-2.ensures c.requires.spare in
+    let here = rotated_here p c.rotate.new.p r s k w c.requires.here c.rotate.ensures c.rotate-2.ensures c.requires.spare in
     let small = w'.small k (omega arith) in
     record {
       order = w';

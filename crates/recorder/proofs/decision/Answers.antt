@@ -4,10 +4,10 @@ use Rattle.model.specs.Paper.{Paper}
 use Rattle.pieces.specs.Store.{cells_of}
 use Rattle.history.specs.Entry.{entry_of}
 use Rattle.recorder.specs.Records.{decided}
-use Rattle.recorder.proofs.Entries.{decided-words, decided-counts, decided-head}
+use Rattle.recorder.proofs.Entries.{decided_words, decided_counts, decided_head}
 use Rattle.recorder.proofs.Marking.{touched_few}
 use Rattle.recorder.proofs.Runs.{text_small}
-use Rattle.recorder.proofs.Sealing.{too_much, roomed_inside, ready, recorded, rest-recorded}
+use Rattle.recorder.proofs.Sealing.{too_much, roomed_inside, ready, recorded, rest_recorded}
 use Rattle.recorder.proofs.decision.Goals as goal
 
 pub overflow_add-count : goal.overflow_add-count
@@ -21,7 +21,7 @@ returns-in_default c =
       records = λ cs.
           let p : Paper = record { cells = cells_of c.args.c.now c.args.p.now c.args.s; changes = cs } in
           too_much c.args.u.now c.make_room.new.u c.args.limit (1 + c.args.count) (entry_of p (decided c.args.outcome c.args.change))
-          (decided-counts p c.args.change c.args.outcome c.args.count c.requires.count) c.in_default.ensures.room;
+          (decided_counts p c.args.change c.args.outcome c.args.count c.requires.count) c.in_default.ensures.room;
       rest = c.make_room.ensures.rest;
     }
 
@@ -34,8 +34,8 @@ pub seal-requires : goal.seal-requires
 seal-requires c =
     let p : Paper = record { cells = cells_of c.args.c.now c.args.p.now c.args.s; changes = [] } in
     ready c.args.u.now c.make_room.new.u c.mark_text.new.u c.args.limit c.in-Some.to _ (entry_of p (decided c.args.outcome c.args.change)) _
-    c.requires.log c.in-Some.ensures.room (decided-head p c.args.change c.args.outcome c.args.count c.kind_for.result c.requires.count c.kind_for.ensures)
-    (decided-words p c.args.change c.args.outcome) c.mark_text.ensures
+    c.requires.log c.in-Some.ensures.room (decided_head p c.args.change c.args.outcome c.args.count c.kind_for.result c.requires.count c.kind_for.ensures)
+    (decided_words p c.args.change c.args.outcome) c.mark_text.ensures
 
 pub returns : goal.returns
 returns c =
@@ -43,13 +43,13 @@ returns c =
       records = λ cs.
           let p : Paper = record { cells = cells_of c.args.c.now c.args.p.now c.args.s; changes = cs } in
           recorded c.args.u.now c.make_room.new.u c.mark_text.new.u c.args.limit c.in-Some.to _ (entry_of p (decided c.args.outcome c.args.change)) _
-          c.requires.log c.in-Some.ensures.room (decided-head p c.args.change c.args.outcome c.args.count c.kind_for.result c.requires.count c.kind_for.ensures)
-          (decided-words p c.args.change c.args.outcome) c.mark_text.ensures
+          c.requires.log c.in-Some.ensures.room (decided_head p c.args.change c.args.outcome c.args.count c.kind_for.result c.requires.count c.kind_for.ensures)
+          (decided_words p c.args.change c.args.outcome) c.mark_text.ensures
           c.seal.new.u c.seal.ensures.seals;
       rest =
           let p : Paper = record { cells = cells_of c.args.c.now c.args.p.now c.args.s; changes = [] } in
-          rest-recorded c.args.u.now c.make_room.new.u c.mark_text.new.u c.args.limit c.in-Some.to _ (entry_of p (decided c.args.outcome c.args.change)) _
-          c.requires.log c.in-Some.ensures.room (decided-head p c.args.change c.args.outcome c.args.count c.kind_for.result c.requires.count c.kind_for.ensures)
-          (decided-words p c.args.change c.args.outcome) c.mark_text.ensures
+          rest_recorded c.args.u.now c.make_room.new.u c.mark_text.new.u c.args.limit c.in-Some.to _ (entry_of p (decided c.args.outcome c.args.change)) _
+          c.requires.log c.in-Some.ensures.room (decided_head p c.args.change c.args.outcome c.args.count c.kind_for.result c.requires.count c.kind_for.ensures)
+          (decided_words p c.args.change c.args.outcome) c.mark_text.ensures
           c.seal.new.u c.make_room.ensures.rest c.seal.ensures.rest;
     }

@@ -2,7 +2,7 @@
 use Rattle.std.proofs.Common.{◌+◌, length, arith}
 use Rattle.history.specs.Entry.{was_put}
 use Rattle.recorder.proofs.Entries.{put_words, put_counts, put_head}
-use Rattle.recorder.proofs.Sealing.{too_much, roomed_inside, ready, recorded, rest-recorded}
+use Rattle.recorder.proofs.Sealing.{too_much, roomed_inside, ready, recorded, rest_recorded}
 use Rattle.recorder.proofs.put.Goals as goal
 
 pub returns-in_default : goal.returns-in_default
@@ -35,6 +35,6 @@ returns c =
     record {
       records = recorded c.args.u.now c.make_room.new.u c.copy_letters.new.u c.args.limit c.in-Some.at _ e ls c.requires.log room is words c.copy_letters.ensures c.seal.new.u c.seal.ensures.seals;
       rest =
-          rest-recorded c.args.u.now c.make_room.new.u c.copy_letters.new.u c.args.limit c.in-Some.at _ e ls c.requires.log room is words c.copy_letters.ensures
+          rest_recorded c.args.u.now c.make_room.new.u c.copy_letters.new.u c.args.limit c.in-Some.at _ e ls c.requires.log room is words c.copy_letters.ensures
           c.seal.new.u c.make_room.ensures.rest c.seal.ensures.rest;
     }

@@ -7,9 +7,9 @@ use Rattle.changes.specs.Row.{changes_of}
 use Rattle.pieces.specs.Store.{cells_of}
 use Rattle.history.specs.Entry.{entry_of}
 use Rattle.recorder.specs.Records.{written_at}
-use Rattle.recorder.proofs.Entries.{struck-words, struck-counts, struck-head}
+use Rattle.recorder.proofs.Entries.{struck_words, struck_counts, struck_head}
 use Rattle.recorder.proofs.Runs.{text_small, copied_stay}
-use Rattle.recorder.proofs.Sealing.{too_much, roomed_inside, ready, recorded, rest-recorded}
+use Rattle.recorder.proofs.Sealing.{too_much, roomed_inside, ready, recorded, rest_recorded}
 use Rattle.recorder.proofs.strike.Goals as goal
 
 pub overflow_add-n : goal.overflow_add-n
@@ -21,7 +21,7 @@ returns-in_default c =
     record {
       records =
           too_much c.args.u.now c.make_room.new.u c.args.limit (1 + c.args.n) (entry_of p (strikes c.args.author c.args.place c.args.n))
-          (struck-counts p c.args.place c.args.n c.requires.within c.args.author) c.in_default.ensures.room;
+          (struck_counts p c.args.place c.args.n c.requires.within c.args.author) c.in_default.ensures.room;
       rest = c.make_room.ensures.rest;
     }
 
@@ -50,8 +50,8 @@ seal-requires c =
     let copied : c.copy_text.new.u ≡ written_at free (c.in-Some.to + 7) (cells_written (take c.args.n (drop c.args.place cells))) = simp take_rest at c.copy_text.ensures in
     let stay = copied_stay free c.copy_text.new.u (c.in-Some.to + 7) c.args.place c.args.n cells p.changes c.args.author c.staying-standing.result
     c.requires.within (omega (arith, r.0)) copied (simp take_rest at c.staying-standing.ensures) in
-    let is = struck-head p c.args.place c.args.n c.requires.within c.args.author c.staying-standing.result stay in
-    let words = struck-words p c.args.place c.args.n c.args.author in
+    let is = struck_head p c.args.place c.args.n c.requires.within c.args.author c.staying-standing.result stay in
+    let words = struck_words p c.args.place c.args.n c.args.author in
     ready c.args.u.now free c.copy_text.new.u c.args.limit c.in-Some.to _ e _ c.requires.log room is words copied
 
 pub returns : goal.returns
@@ -65,9 +65,9 @@ returns c =
     let copied : c.copy_text.new.u ≡ written_at free (c.in-Some.to + 7) (cells_written (take c.args.n (drop c.args.place cells))) = simp take_rest at c.copy_text.ensures in
     let stay = copied_stay free c.copy_text.new.u (c.in-Some.to + 7) c.args.place c.args.n cells p.changes c.args.author c.staying-standing.result
     c.requires.within (omega (arith, r.0)) copied (simp take_rest at c.staying-standing.ensures) in
-    let is = struck-head p c.args.place c.args.n c.requires.within c.args.author c.staying-standing.result stay in
-    let words = struck-words p c.args.place c.args.n c.args.author in
+    let is = struck_head p c.args.place c.args.n c.requires.within c.args.author c.staying-standing.result stay in
+    let words = struck_words p c.args.place c.args.n c.args.author in
     record {
       records = recorded c.args.u.now free c.copy_text.new.u c.args.limit c.in-Some.to _ e _ c.requires.log room is words copied c.seal.new.u c.seal.ensures.seals;
-      rest = rest-recorded c.args.u.now free c.copy_text.new.u c.args.limit c.in-Some.to _ e _ c.requires.log room is words copied c.seal.new.u c.make_room.ensures.rest c.seal.ensures.rest;
+      rest = rest_recorded c.args.u.now free c.copy_text.new.u c.args.limit c.in-Some.to _ e _ c.requires.log room is words copied c.seal.new.u c.make_room.ensures.rest c.seal.ensures.rest;
     }

@@ -4,9 +4,9 @@ use Rattle.model.specs.Paper.{Paper}
 use Rattle.model.specs.Calls.{styles}
 use Rattle.pieces.specs.Store.{cells_of}
 use Rattle.history.specs.Entry.{entry_of}
-use Rattle.recorder.proofs.Entries.{styled-words, styled-counts, styled-head}
+use Rattle.recorder.proofs.Entries.{styled_words, styled_counts, styled_head}
 use Rattle.recorder.proofs.Runs.{text_small}
-use Rattle.recorder.proofs.Sealing.{too_much, roomed_inside, ready, recorded, rest-recorded}
+use Rattle.recorder.proofs.Sealing.{too_much, roomed_inside, ready, recorded, rest_recorded}
 use Rattle.recorder.proofs.style.Goals as goal
 
 pub overflow_add-n : goal.overflow_add-n
@@ -18,7 +18,7 @@ returns-in_default c =
       records = λ cs.
           let p : Paper = record { cells = cells_of c.args.c.now c.args.p.now c.args.s; changes = cs } in
           too_much c.args.u.now c.make_room.new.u c.args.limit (1 + c.args.n) (entry_of p (styles c.args.place c.args.n c.args.style))
-          (styled-counts p c.args.place c.args.n c.requires.within c.args.style) c.in_default.ensures.room;
+          (styled_counts p c.args.place c.args.n c.requires.within c.args.style) c.in_default.ensures.room;
       rest = c.make_room.ensures.rest;
     }
 
@@ -31,7 +31,7 @@ pub seal-requires : goal.seal-requires
 seal-requires c =
     let p : Paper = record { cells = cells_of c.args.c.now c.args.p.now c.args.s; changes = [] } in
     ready c.args.u.now c.make_room.new.u c.copy_text.new.u c.args.limit c.in-Some.to _ (entry_of p (styles c.args.place c.args.n c.args.style)) _
-    c.requires.log c.in-Some.ensures.room (styled-head p c.args.place c.args.n c.requires.within c.args.style) (styled-words p c.args.place c.args.n c.args.style) c.copy_text.ensures
+    c.requires.log c.in-Some.ensures.room (styled_head p c.args.place c.args.n c.requires.within c.args.style) (styled_words p c.args.place c.args.n c.args.style) c.copy_text.ensures
 
 pub returns : goal.returns
 returns c =
@@ -39,11 +39,11 @@ returns c =
       records = λ cs.
           let p : Paper = record { cells = cells_of c.args.c.now c.args.p.now c.args.s; changes = cs } in
           recorded c.args.u.now c.make_room.new.u c.copy_text.new.u c.args.limit c.in-Some.to _ (entry_of p (styles c.args.place c.args.n c.args.style)) _
-          c.requires.log c.in-Some.ensures.room (styled-head p c.args.place c.args.n c.requires.within c.args.style) (styled-words p c.args.place c.args.n c.args.style) c.copy_text.ensures
+          c.requires.log c.in-Some.ensures.room (styled_head p c.args.place c.args.n c.requires.within c.args.style) (styled_words p c.args.place c.args.n c.args.style) c.copy_text.ensures
           c.seal.new.u c.seal.ensures.seals;
       rest =
           let p : Paper = record { cells = cells_of c.args.c.now c.args.p.now c.args.s; changes = [] } in
-          rest-recorded c.args.u.now c.make_room.new.u c.copy_text.new.u c.args.limit c.in-Some.to _ (entry_of p (styles c.args.place c.args.n c.args.style)) _
-          c.requires.log c.in-Some.ensures.room (styled-head p c.args.place c.args.n c.requires.within c.args.style) (styled-words p c.args.place c.args.n c.args.style) c.copy_text.ensures
+          rest_recorded c.args.u.now c.make_room.new.u c.copy_text.new.u c.args.limit c.in-Some.to _ (entry_of p (styles c.args.place c.args.n c.args.style)) _
+          c.requires.log c.in-Some.ensures.room (styled_head p c.args.place c.args.n c.requires.within c.args.style) (styled_words p c.args.place c.args.n c.args.style) c.copy_text.ensures
           c.seal.new.u c.make_room.ensures.rest c.seal.ensures.rest;
     }

@@ -1,6 +1,6 @@
 use Rattle.std.proofs.Common.{◌≡◌, ◌+◌, ◌-◌, ◌*◌, ◌<◌, ◌≤◌, min, length, arith}
 use Rattle.pieces.specs.Store.{before}
-use Rattle.saving.proofs.Files.{before_few, saves-none, saves}
+use Rattle.saving.proofs.Files.{before_few, saves_none, saves}
 use Rattle.saving.proofs.save.Goals as goal
 
 pub overflow_mul-count : goal.overflow_mul-count
@@ -13,7 +13,7 @@ pub returns-then-before-count : goal.returns-then-before-count
 returns-then-before-count c =
     let e = c.count.ensures in
     let h : 1 + 2 * c.args.row + 4 * before c.args.p.now c.args.s < c.args.from + c.args.n = omega arith in
-    saves-none c.args.c.now c.args.p.now c.args.s c.args.changes.now c.args.row c.requires.changes c.args.from c.args.n c.args.out.now h
+    saves_none c.args.c.now c.args.p.now c.args.s c.args.changes.now c.args.row c.requires.changes c.args.from c.args.n c.args.out.now h
 
 pub returns : goal.returns
 returns c =

@@ -5,7 +5,7 @@ use Rattle.pieces.specs.Store.{used, before, cells_of}
 use Rattle.codec.specs.Bytes.{words_bytes}
 use Rattle.codec.specs.Over.{over}
 use Rattle.saving.proofs.Runs.{writing_start, writing_more, writing_done}
-use Rattle.saving.proofs.Files.{length-all, piece_run, before_few}
+use Rattle.saving.proofs.Files.{length_all, piece_run, before_few}
 use Rattle.saving.proofs.write_cells.Goals as goal
 
 pub loop-left-init : goal.loop-left-init
@@ -30,7 +30,7 @@ loop-left-preserved c =
     let sum = spot.sum in
     let within = spot.within in
     let d = div-add-mod' c.loop-left.next 4 in
-    let l = length-all c.args.c.now c.args.p.now c.args.s c.requires.store in
+    let l = length_all c.args.c.now c.args.p.now c.args.s c.requires.store in
     let few : c.min-m.result ≤ c.loop-left.left = omega arith in
     let inside : c.loop-left.next + c.loop-left.left ≤ length (cells_written (cells_of c.args.c.now c.args.p.now c.args.s)) = omega arith in
     let e : 4 * before c.args.p.now c.locate-spot.result.piece + (4 * c.locate-spot.result.offset + c.loop-left.next % 4) ≡ c.loop-left.next = omega arith in

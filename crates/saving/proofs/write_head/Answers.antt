@@ -3,7 +3,7 @@ use Rattle.codec.specs.Bytes.{word_bytes, words_bytes}
 use Rattle.codec.specs.Over.{over}
 use Rattle.codec.proofs.Writes.{over_step}
 use Rattle.saving.proofs.Runs.{run_none}
-use Rattle.saving.proofs.Files.{head-from, head_first, length_word}
+use Rattle.saving.proofs.Files.{head_from, head_first, length_word}
 use Rattle.saving.proofs.write_head.Goals as goal
 
 pub returns-then-n-eq0 : goal.returns-then-n-eq0
@@ -11,7 +11,7 @@ returns-then-n-eq0 c = let e = c.if-n-eq0.true in record { bytes = sym (run_none
 
 pub returns-then-from-gt0 : goal.returns-then-from-gt0
 returns-then-from-gt0 c =
-    let h = head-from c.args.changes.now c.args.row c.requires.changes c.args.from c.args.n c.if-from-gt0.true c.if-n-eq0.false c.requires.there in
+    let h = head_from c.args.changes.now c.args.row c.requires.changes c.args.from c.args.n c.if-from-gt0.true c.if-n-eq0.false c.requires.there in
     record { bytes = c.words.ensures.bytes ∙ ap (λ (ns : List ℕ). over c.args.out.now c.args.at (words_bytes ns)) h; next = c.words.ensures.next }
 
 pub returns : goal.returns

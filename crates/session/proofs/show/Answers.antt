@@ -5,7 +5,7 @@ use Rattle.model.specs.Rows.{rows}
 use Rattle.model.specs.Calls.{lines, refused, show}
 use Rattle.layout.specs.Shown.{Shows, ShowsNone}
 use Rattle.session.specs.Memory.{paper_of, slots_of}
-use Rattle.session.proofs.Looking.{not_shown, show-range, shown}
+use Rattle.session.proofs.Looking.{not_shown, show_range, shown}
 use Rattle.session.proofs.Saying.{said}
 use Rattle.session.proofs.show.Goals as goal
 
@@ -14,7 +14,7 @@ show-requires c =
     let rs = c.args.rows in
     let slots : c.slots_for-slots.result ≡ slots_of c.args.pieces.now = c.slots_for-slots.ensures.slots in
     let range : (rs.way < 3) × (1 ≤ rs.width) × (rs.width ≤ 256) × (rs.count ≤ 64) =
-    show-range c.args.cells.now c.args.pieces.now rs.way rs.width rs.first rs.count c.requires.held c.requires.good in
+    show_range c.args.cells.now c.args.pieces.now rs.way rs.width rs.first rs.count c.requires.held c.requires.good in
     rw (take_rest, slots) record { store = c.requires.held.store; way = range.0; least = range.1; most = range.2; few = range.3; room = c.requires.room }
 
 pub returns-in-Some : goal.returns-in-Some

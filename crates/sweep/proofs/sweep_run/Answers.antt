@@ -6,7 +6,7 @@ use Rattle.pieces.proofs.Texts.{length_text}
 use Rattle.pieces.proofs.Change.{frame_none, frame_both}
 use Rattle.sweep.specs.Sweep.{swept_run}
 use Rattle.sweep.proofs.Ahead.{row_kept}
-use Rattle.sweep.proofs.Runs.{before_small, swept-run-none, run_step}
+use Rattle.sweep.proofs.Runs.{before_small, swept_run_none, run_step}
 use Rattle.sweep.proofs.Sets.{past_tree}
 use Rattle.sweep.proofs.sweep_run.Goals as goal
 
@@ -87,6 +87,6 @@ returns c =
     let t = cells_of c.loop-left.c (drop c.args.at.tables c.loop-left.w) c.args.at.slots in
     let z : c.loop-left.left ≡ 0 = omega arith in
     record {
-      edited = record { store = inv.0; frame = inv.1; text = sym (ap (λ n. swept_run a cs t c.loop-left.next n) z ∙ swept-run-none a cs t c.loop-left.next) ∙ inv.3 };
+      edited = record { store = inv.0; frame = inv.1; text = sym (ap (λ n. swept_run a cs t c.loop-left.next n) z ∙ swept_run_none a cs t c.loop-left.next) ∙ inv.3 };
       head = inv.4;
     }

@@ -4,8 +4,8 @@ use Rattle.changes.specs.Row.{changes_of}
 use Rattle.pieces.specs.Store.{piece, used}
 use Rattle.pieces.proofs.Texts.{length_piece}
 use Rattle.pieces.proofs.Change.{frame_none, frame_both}
-use Rattle.pieces.proofs.Edit.{beside-edited}
-use Rattle.sweep.proofs.Runs.{swept-run-all}
+use Rattle.pieces.proofs.Edit.{beside_edited}
+use Rattle.sweep.proofs.Runs.{swept_run_all}
 use Rattle.sweep.proofs.Sets.{past_tree, beside_piece}
 use Rattle.sweep.proofs.sweep_whole.Goals as goal
 
@@ -41,11 +41,11 @@ returns c =
     let q = drop t c.sweep_piece.new.w in
     let r = drop t c.remark.new.w in
     let is : c.used-has.result ≡ used p k = simp take_rest at c.used-has.ensures in
-    let all = swept-run-all c.args.action (changes_of (drop 16 c.args.w.now) c.args.at.row) (piece old p k) c.used-has.result (length_piece old p k ∙ sym is) in
+    let all = swept_run_all c.args.action (changes_of (drop 16 c.args.w.now) c.args.at.row) (piece old p k) c.used-has.result (length_piece old p k ∙ sym is) in
     let h = c.sweep_piece.ensures.changed in
     let e = c.remark.ensures in
     record {
-      frame = frame_both old p new q new r s h.frame (beside-edited new q r s c.sweep_piece.ensures.store e.beside e.store).frame;
+      frame = frame_both old p new q new r s h.frame (beside_edited new q r s c.sweep_piece.ensures.store e.beside e.store).frame;
       swept = beside_piece new q r s k h.order e.beside c.requires.here ∙ h.here ∙ all;
       others = λ j l ne. beside_piece new q r s j h.order e.beside l ∙ h.others j l ne;
       store = e.store;

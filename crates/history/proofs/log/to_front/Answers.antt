@@ -1,6 +1,6 @@
 -- The words from the front on are those of the log.
 use Rattle.std.proofs.Common.{◌+◌, ◌≤◌, length, arith}
-use Rattle.history.proofs.Keeping.{front-stays, front_rest}
+use Rattle.history.proofs.Keeping.{front_stays, front_rest}
 use Rattle.history.proofs.log.to_front.Goals as goal
 
 pub returns : goal.returns
@@ -10,7 +10,7 @@ returns c =
     let b : 16 + c.read-log.result.end ≤ length c.args.u.now = omega (arith, w.inside, c.read-log.ensures) in
     record {
       stays =
-          front-stays c.args.u.now c.copy_within.new.self c.write.new.u c.read-log.result c.read-log.ensures a b
+          front_stays c.args.u.now c.copy_within.new.self c.write.new.u c.read-log.result c.read-log.ensures a b
           c.copy_within.ensures.after c.write.ensures.rest (omega (arith, c.write.auto.u, c.copy_within.ensures.len)) c.write.ensures.head;
       front = c.write.ensures.head.start;
       rest =

@@ -2,7 +2,7 @@ use Rattle.std.proofs.Common.{◌<◌, ◌≤◌, min, length, sym, ap, ◌∙�
 use Rattle.std.proofs.lemmas.List.{length-map, get_or-map}
 use Rattle.model.specs.Paper.{Cell}
 use Rattle.printing.specs.Values.{cell_of, cells_of, none}
-use Rattle.printing.proofs.Shown.{end_found, end_more, end-last}
+use Rattle.printing.proofs.Shown.{end_found, end_more, end_last}
 use Rattle.printing.proofs.rows.first_end.Goals as goal
 
 pub returns-then-cells-i-eq-END : goal.returns-then-cells-i-eq-END
@@ -29,4 +29,4 @@ pub returns : goal.returns
 returns c =
     let xs = c.args.cells.now in
     let h : min (length (cells_of xs)) 65 ≤ c.loop-i.i = omega (arith, length-map xs cell_of) in
-    sym (c.loop-i.invariant ∙ end-last (cells_of xs) 65 c.loop-i.i h)
+    sym (c.loop-i.invariant ∙ end_last (cells_of xs) 65 c.loop-i.i h)

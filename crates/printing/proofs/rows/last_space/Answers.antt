@@ -3,7 +3,7 @@ use Rattle.std.proofs.lemmas.List.{length-map, get_or-map}
 use Rattle.model.specs.Paper.{Cell}
 use Rattle.model.specs.Rows as model
 use Rattle.printing.specs.Values.{after_place, cell_of, cells_of, none}
-use Rattle.printing.proofs.Shown.{space_found, space-more, space-last}
+use Rattle.printing.proofs.Shown.{space_found, space_more, space_last}
 use Rattle.printing.proofs.rows.last_space.Goals as goal
 use Rattle.printing.proofs.rows.last_space.Goals.{then-cells-i-eq-SPACE, else-cells-i-eq-SPACE}
 
@@ -20,11 +20,11 @@ loop-i-preserved c =
       | then-cells-i-eq-SPACE v ↦
           c.loop-i.invariant ∙ (space_found (cells_of xs) 65 i (cell_of none) l w (after_place c.loop-i.found) (e ∙ v.if-cells-i-eq-SPACE.true) ∙ ap after (sym v.found-is))
       | else-cells-i-eq-SPACE v ↦
-          c.loop-i.invariant ∙ (space-more (cells_of xs) 65 i (cell_of none) l w (after_place c.loop-i.found) (λ q. v.if-cells-i-eq-SPACE.false (sym e ∙ q)) ∙ ap after (sym v.found-is))
+          c.loop-i.invariant ∙ (space_more (cells_of xs) 65 i (cell_of none) l w (after_place c.loop-i.found) (λ q. v.if-cells-i-eq-SPACE.false (sym e ∙ q)) ∙ ap after (sym v.found-is))
     ]
 
 pub returns : goal.returns
 returns c =
     let xs = c.args.cells.now in
     let h : min (length (cells_of xs)) 65 ≤ c.loop-i.i = omega (arith, length-map xs cell_of) in
-    sym (c.loop-i.invariant ∙ space-last (cells_of xs) 65 c.loop-i.i h (after_place c.loop-i.found))
+    sym (c.loop-i.invariant ∙ space_last (cells_of xs) 65 c.loop-i.i h (after_place c.loop-i.found))

@@ -3,7 +3,7 @@ use Rattle.std.proofs.lemmas.List.{take_all}
 use Rattle.model.specs.Paper as paper
 use Rattle.printing.specs.declared.reading.Cell.{Cell}
 use Rattle.printing.specs.Values.{cells_of, number_of, none}
-use Rattle.printing.proofs.Shown.{view_none, view-step, view-pass}
+use Rattle.printing.proofs.Shown.{view_none, view_step, view_pass}
 use Rattle.printing.proofs.rows.view.Goals as goal
 use Rattle.printing.proofs.rows.view.Goals.{then-sees+in_ok-push, else-sees}
 
@@ -19,9 +19,9 @@ loop-x-preserved c =
     elim c.if-sees.branch [
       | then-sees+in_ok-push w ↦
           ap (λ v. cells_of (vec_items v)) w.seen-is
-          ∙ view-step k i cells before none c.loop-x-test.true c.loop-x.invariant (vec_items w.push.new.self) (sym c.sees.ensures ∙ w.if-sees.true) w.in_ok-push.ensures.items
+          ∙ view_step k i cells before none c.loop-x-test.true c.loop-x.invariant (vec_items w.push.new.self) (sym c.sees.ensures ∙ w.if-sees.true) w.in_ok-push.ensures.items
       | else-sees w ↦
-          ap (λ v. cells_of (vec_items v)) w.seen-is ∙ view-pass k i cells before none c.loop-x-test.true c.loop-x.invariant (sym c.sees.ensures ∙ w.if-sees.false)
+          ap (λ v. cells_of (vec_items v)) w.seen-is ∙ view_pass k i cells before none c.loop-x-test.true c.loop-x.invariant (sym c.sees.ensures ∙ w.if-sees.false)
     ]
 
 pub returns : goal.returns

@@ -5,16 +5,16 @@ use Rattle.model.specs.Values.{change_of}
 use Rattle.sweep.specs.Sweep.{swept}
 use Rattle.session.specs.Acts.{Rowed, Wrote, row_of, verdict_action, verdict_became, with_cells}
 use Rattle.session.specs.Memory.{paper_of}
-use Rattle.session.proofs.Judging.{decide-closed, decide-none, decided}
+use Rattle.session.proofs.Judging.{decide_closed, decide_none, decided}
 use Rattle.session.proofs.Putting.{still}
 use Rattle.session.proofs.deciding.decide.Goals as goal
 
 pub returns-in_default : goal.returns-in_default
-returns-in_default c = decide-none c.args.cells.now c.args.pieces.now c.requires c.args.change c.args.verdict c.in_default.ensures
+returns-in_default c = decide_none c.args.cells.now c.args.pieces.now c.requires c.args.change c.args.verdict c.in_default.ensures
 
 pub returns-then-found-ne0 : goal.returns-then-found-ne0
 returns-then-found-ne0 c =
-    decide-closed c.args.cells.now c.args.pieces.now c.requires c.args.change c.args.verdict (change_of c.in-Some.found) c.in-Some.ensures.0 c.in-Some.ensures.1 c.if-found-ne0.true
+    decide_closed c.args.cells.now c.args.pieces.now c.requires c.args.change c.args.verdict (change_of c.in-Some.found) c.in-Some.ensures.0 c.in-Some.ensures.1 c.if-found-ne0.true
 
 pub judge-requires : goal.judge-requires
 judge-requires c =

@@ -5,21 +5,21 @@ use Rattle.sweep.specs.declared.Action.TheVariants.{Strike}
 use Rattle.session.specs.Acts.{Wrote, allows, row_of, with_cells}
 use Rattle.session.specs.Memory.{paper_of, slots_of, tables}
 use Rattle.session.proofs.Putting.{still}
-use Rattle.session.proofs.Striking.{allowed_more, cells_there, strike-done, strike-nowhere, strike-too-much}
+use Rattle.session.proofs.Striking.{allowed_more, cells_there, strike_done, strike_nowhere, strike_too_much}
 use Rattle.session.proofs.deciding.strike.Goals as goal
 
 pub returns-in_default : goal.returns-in_default
 returns-in_default c =
     let ps = c.args.pieces.now in
     let h : leb (c.args.place + c.args.count) (before (tables ps) (slots_of ps)) ≡ false = rw c.count_cells-total.ensures at c.in_default.ensures in
-    strike-nowhere c.args.cells.now ps c.requires.held c.args.author c.args.place c.args.count c.requires.good h
+    strike_nowhere c.args.cells.now ps c.requires.held c.args.author c.args.place c.args.count c.requires.good h
 
 pub returns-in_default-room : goal.returns-in_default-room
 returns-in_default-room c =
     let ps = c.args.pieces.now in
     let h : leb (c.args.place + c.args.count) (before (tables ps) (slots_of ps)) ≡ true = rw c.count_cells-total.ensures at c.in-Some.ensures.1 in
     let k : allows ps (before (tables ps) (slots_of ps)) ≡ false = rw c.count_cells-total.ensures at c.in_default-room.ensures in
-    strike-too-much c.args.cells.now ps c.requires.held c.args.author c.args.place c.args.count c.requires.good h k
+    strike_too_much c.args.cells.now ps c.requires.held c.args.author c.args.place c.args.count c.requires.good h k
 
 pub sweep_run-requires : goal.sweep_run-requires
 sweep_run-requires c =
@@ -54,4 +54,4 @@ returns c =
     let k : allows ps (before (tables ps) (slots_of ps)) ≡ true = rw c.count_cells-total.ensures at c.in-Some-room.ensures.1 in
     let wrote : Wrote cs ps c.sweep_run.new.cells c.sweep_run.new.pieces (with_cells (paper_of cs ps) (swept_run (Strike c.args.author (get_or ps 3 0)) (row_of ps) (paper_of cs ps).cells i n)) =
     rw (at, number) at c.sweep_run.ensures in
-    rw number (strike-done cs ps c.requires.held c.args.author i n c.requires.good c.sweep_run.new.cells c.sweep_run.new.pieces c.add_change.new.pieces h k wrote c.add_change.ensures)
+    rw number (strike_done cs ps c.requires.held c.args.author i n c.requires.good c.sweep_run.new.cells c.sweep_run.new.pieces c.add_change.new.pieces h k wrote c.add_change.ensures)
