@@ -44,7 +44,7 @@
  *
  *    1  a call that cannot be read (the first byte that does not fit: 0 if the first byte is missing or no call's, the number of
  *       bytes that came if some are missing, the first byte too many)
- *    2  a field out of range, or a call that this desk cannot do (0)
+ *    2  a field out of range (0)
  *    3  at opening only: limits out of range (1), or less memory than they ask for (0)
  *    4  cells that are not there (1 in put and strike, 0 in style)
  *    5  a change that is not there (0)
@@ -74,7 +74,7 @@ enum { DESK_CELLS = 0, DESK_PIECES = 1, DESK_UNDO = 2 };
 #define DESK_REFUSAL(r) ((uint32_t)(-(r) / 4294967296))
 #define DESK_PLACE(r) ((uint32_t)(-(r) % 4294967296))
 
-/* How many 32-bit words an array needs for these limits: which is DESK_CELLS, DESK_PIECES or DESK_UNDO. It may be 0. All three
+/* How many 32-bit words an array needs for these limits: which is DESK_CELLS, DESK_PIECES or DESK_UNDO. All three
  * together are at most 8 for each cell and change, 16 for each that can be undone, and 65,536 more.
  * Refused: any other which, -(2 * 2^32); limits out of range, -(3 * 2^32 + 1). */
 int64_t desk_words(uint32_t which, uint32_t max_cells, uint32_t max_changes, uint32_t max_undos);

@@ -4,12 +4,12 @@ use Rattle.std.proofs.lemmas.List.{append_assoc, length-append, length-take-le, 
 use Rattle.std.proofs.lemmas.Bool.{cases_lt, cases_eq}
 use Rattle.model.specs.Paper.{Cell}
 use Rattle.slots.specs.Cells.{cell_at, cells_at, Kept}
-use Rattle.slots.proofs.Words.{cells_split}
+use Rattle.slots.proofs.Words.{cells_split, length_cells}
 use Rattle.tree.specs.Tree.{Sums}
 use Rattle.std.specs.List.{AllByRecursion}
 use Rattle.pieces.specs.Marks.{Marks, with_set, noted_cells, Beside, Grown}
 use Rattle.pieces.specs.Store.{slot, used, piece, cells_of, before, Marked, Order, Store, Frame, Edited}
-use Rattle.pieces.specs.Edits.{replaced, Changed, Cut}
+use Rattle.pieces.specs.Edits.{replaced, Changed, Cut, SameText}
 use Rattle.pieces.proofs.Texts.{length_piece, length_text, before_more, before_within}
 use Rattle.pieces.proofs.Sets.{sums_beside, marks_moved, beside_both, set_beside, set_apart, cells_noted}
 use Rattle.pieces.proofs.Change.{changed_text, changed_marked, carried, length_replaced, replaced_here, resized_none, resized_grown, frame_both, frame_none}
@@ -114,6 +114,10 @@ not_last p s k l e m =
       | inr h ↦ absurd (let i : k ≡ s - 1 = omega arith in let z : used p k ≡ 0 = ap (used p) i ∙ e in omega arith)
     ]
 
+-- the last piece is empty, if n is more than a limit below 1,024 or more than 1,024
+pub last_free : (p : List ℕ) (s n most : ℕ) → (most < 1024 → used p (s - 1) ≡ 0) → (1024 < n → used p (s - 1) ≡ 0) → most < n → used p (s - 1) ≡ 0
+last_free p s n most h g l = elim (cases_lt most 1024) [ inl m ↦ h m | inr m ↦ g (omega arith) ]
+
 -- the first m of n cells and the others
 pub halves : (new : List ℕ) (from m n : ℕ) → m ≤ n → cells_at new from m ++ cells_at new (from + m) (n - m) ≡ cells_at new from n
 halves new from m n l = let e : m + (n - m) ≡ n = omega arith in sym (cells_split new from m (n - m)) ∙ ap (cells_at new from) e
@@ -121,6 +125,36 @@ halves new from m n l = let e : m + (n - m) ≡ n = omega arith in sym (cells_sp
 -- cells put in at a place
 pub put_text : (t new : List Cell) (i place : ℕ) → i ≡ place → replaced t i 0 new ≡ take place t ++ (new ++ drop place t)
 put_text t new i place e = let z : i + 0 ≡ place = omega arith in cc
+
+-- and more behind them
+pub put_more : (t u a b : List Cell) (i j : ℕ) → i ≤ length t → j ≡ i + length a → u ≡ take i t ++ (a ++ drop i t)
+    → take j u ++ (b ++ drop j u) ≡ take i t ++ ((a ++ b) ++ drop i t)
+put_more t u a b i j l e h =
+    let x = put_text t a i i refl in
+    let y = put_text (replaced t i 0 a) b j j refl in
+    let z = put_text t (a ++ b) i i refl in
+    let w = replaced_twice t a b i j l e in
+    cc
+
+-- how many there are then
+pub put_length : (t u a : List Cell) (i : ℕ) → i ≤ length t → u ≡ take i t ++ (a ++ drop i t) → length u ≡ length t + length a
+put_length t u a i l h =
+    let x = put_text t a i i refl in
+    let y = length_replaced t i 0 a (omega arith) in
+    let z : length u ≡ length (replaced t i 0 a) = cc in
+    omega arith
+
+-- cells put in in two steps
+pub edited_more : (c p d q e r new : List ℕ) (s i from m n : ℕ) → i ≤ length (cells_of c p s) → m ≤ n
+    → Edited c p d q s (take i (cells_of c p s) ++ (cells_at new from m ++ drop i (cells_of c p s)))
+    → Edited d q e r s (take (i + m) (cells_of d q s) ++ (cells_at new (from + m) (n - m) ++ drop (i + m) (cells_of d q s)))
+    → Edited c p e r s (take i (cells_of c p s) ++ (cells_at new from n ++ drop i (cells_of c p s)))
+edited_more c p d q e r new s i from m n l k h g =
+    let t = cells_of c p s in
+    let f = length_cells new from m in
+    let w = put_more t (cells_of d q s) (cells_at new from m) (cells_at new (from + m) (n - m)) i (i + m) l (omega arith) h.text in
+    let v = halves new from m n k in
+    record { store = g.store; frame = frame_both c p d q e r s h.frame g.frame; text = g.text ∙ w ∙ ap (λ x. take i t ++ (x ++ drop i t)) v }
 
 -- nothing taken out
 pub removed_none : (t : List Cell) (i n : ℕ) → n ≡ 0 → t ≡ replaced t i n []
@@ -167,6 +201,26 @@ module _ (c p q : List ℕ) (s : ℕ) (t : Store c p s) (h : Beside p q) where
         frame = record { cells_long = refl; words_long = h.long; cells_past = refl; words_past = h.past; spare = λ k a b. h.below k (omega arith) };
         text = strung_same (piece c q) (piece c p) 0 0 s (λ j a. beside_piece (0 + j) (omega arith));
       }
+
+-- the same text, and sets made anew
+pub same_store : (c p d q : List ℕ) (s : ℕ) → Store c p s → SameText c p d q s → Sums (drop 2048 q) → Store d q s
+same_store c p d q s t h u = store_after c p d q s t h.frame h.order u (h.marked t.marked)
+
+pub same_beside : (c p d q r : List ℕ) (s : ℕ) → SameText c p d q s → Store d q s → Beside q r → Store d r s → SameText c p d r s
+same_beside c p d q r s h t b u =
+    let e = beside_edited d q r s t b u in
+    record { order = u.table.order; frame = frame_both c p d q d r s h.frame e.frame; text = e.text ∙ h.text; marked = λ mk. u.marked }
+
+pub cut_beside : (c p d q r : List ℕ) (s k o : ℕ) → k + 1 < s → Cut c p d q s k o → Store d q s → Beside q r → Store d r s → Cut c p d r s k o
+cut_beside c p d q r s k o l h t b u =
+    let most = t.table.order.most in
+    let used-same : (j : ℕ) → j < s → used r j ≡ used q j = λ j m. b.below (4096 + j) (omega arith) in
+    record {
+      same = same_beside c p d q r s h.same t b u;
+      place = before_same r q k (λ j m. used-same j (omega arith)) ∙ h.place;
+      here = used-same k (omega arith) ∙ h.here;
+      next = used-same (k + 1) l ∙ h.next;
+    }
 
 -- sets that have grown
 pub grown_store : (c p q : List ℕ) (s : ℕ) → Store c p s → Grown p q → Store c q s

@@ -1,10 +1,10 @@
 -- Sets of marks: bits of words, marks added, and two sets joined.
-use Rattle.std.proofs.Common.{◌≡◌, ℕ, ◌+◌, ◌*◌, ◌/◌, ◌%◌, ◌^◌, ◌<◌, ◌≤◌, max, true, false, ◌≢◌, List, [], ◌∷◌, ◌++◌, length, get_or, drop, set, sym, refl, ap, ◌∙◌, inl, inr, one-mul, arith}
-use lib.Bits.{bit_or, or_step}
+use Rattle.std.proofs.Common.{◌≡◌, ℕ, zero, suc, ◌+◌, ◌*◌, ◌/◌, ◌%◌, ◌^◌, ◌<◌, ◌≤◌, max, true, false, ◌≢◌, List, [], ◌∷◌, ◌++◌, length, get_or, drop, set, sym, refl, ap, ◌∙◌, inl, inr, one-mul, pow-suc, one-add, arith}
+use lib.Bits.{bit_or, or_step, or_zero_r}
 use Rattle.std.specs.List.{AllByRecursion}
-use Rattle.std.proofs.lemmas.Nat.{or_shr, or_comm, shl-shr, one_shl}
+use Rattle.std.proofs.lemmas.Nat.{or_shr, or_comm, shl-shr, shr-shr, one_shl}
 use Rattle.std.proofs.ByRecursion.{All-weaker}
-use Rattle.std.proofs.lemmas.List.{length-set, get_or-set_same, get_or-set_other, drop-set-lt, get_or-drop, length-drop}
+use Rattle.std.proofs.lemmas.List.{length-set, get_or-set_same, get_or-set_other, set-get_or, drop-set-lt, get_or-drop, length-drop}
 use Rattle.std.proofs.lemmas.Bool.{cases_eq, eq-eqb, ne_eqb}
 use Rattle.model.specs.Paper.{Cell}
 use Rattle.tree.specs.Tree.{Sums}
@@ -26,6 +26,28 @@ bit_right w v j h = rw (or_comm w v) (bit_left v w j h)
 
 bit_own : (j : ℕ) → Bit (2 ^ j) j
 bit_own j = let e : 2 ^ j / 2 ^ j ≡ 1 = rw one-mul at (shl-shr 1 j) in rw e
+
+-- a bit that is set already
+or_half : (w x y : ℕ) → y ≡ x * 2 → bit_or (w / 2) x ≡ w / 2 → bit_or w y ≡ w
+or_half w x y e h =
+    let s = or_step w y in
+    let half : y / 2 ≡ x = omega arith in
+    let f : bit_or (w / 2) (y / 2) ≡ w / 2 = ap (bit_or (w / 2)) half ∙ h in
+    let m : max (w % 2) (y % 2) ≡ w % 2 = omega arith in
+    omega arith
+
+or_odd : (w : ℕ) → w % 2 ≡ 1 → bit_or w 1 ≡ w
+or_odd w h =
+    let s = or_step w 1 in
+    let z = or_zero_r (w / 2) in
+    let m : max (w % 2) 1 ≡ 1 = omega arith in
+    omega arith
+
+bit_again : (j w : ℕ) → Bit w j → bit_or w (2 ^ j) ≡ w
+bit_again zero w h = or_odd w (omega arith)
+bit_again (suc j) w h =
+    let q : w / 2 / 2 ^ j ≡ w / 2 ^ suc j = shr-shr w 1 j ∙ ap (λ (n : ℕ). w / 2 ^ n) (one-add j) in
+    or_half w (2 ^ j) (2 ^ suc j) (pow-suc 2 j) (bit_again j (w / 2) (ap (λ (n : ℕ). n % 2) q ∙ h))
 
 -- the words of slot a written
 module _ (p : List ℕ) (a x y : ℕ) (l : a < 2048) (w : 10240 ≤ length p) where
@@ -100,6 +122,21 @@ noted_has p i m l w some =
 pub noted_none : (p : List ℕ) (i m : ℕ) → m ≡ 0 → p ≡ noted p i m
 noted_none p i m e = rw (eq-eqb m 0 e)
 
+-- a mark that the set has already
+noted_there : (p : List ℕ) (i m : ℕ) → (0 < m → Has p i m) → p ≡ noted p i m
+noted_there p i m h =
+    elim (cases_eq m 0) [
+      | inl e ↦ noted_none p i m e
+      | inr ne ↦
+          let some : 0 < m = omega arith in
+          let low = bit_again (m % 32) (get_or p (6144 + i) 0) (h some).low in
+          let high = bit_again (m / 32 % 32) (get_or p (8192 + i) 0) (h some).high in
+          rw (ne_eqb m 0 ne, low, high, set-get_or p (6144 + i) 0, set-get_or p (8192 + i) 0)
+    ]
+
+pub noted_again : (p : List ℕ) (i m n : ℕ) → m ≡ n → (0 < n → Has p i n) → p ≡ noted p i m
+noted_again p i m n e h = rw e (noted_there p i n h)
+
 pub noted_is : (p : List ℕ) (i m : ℕ) → (m ≡ 0 → ⊥)
     → with_set p i (bit_or (get_or p (6144 + i) 0) ((1 * 2 ^ (m % 32)) % 2 ^ 32)) (bit_or (get_or p (8192 + i) 0) ((1 * 2 ^ (m / 32 % 32)) % 2 ^ 32)) ≡ noted p i m
 noted_is p i m ne =
@@ -120,6 +157,18 @@ pub noted_more : (p : List ℕ) (i : ℕ) (xs : List Cell) (x : Cell)
 unfolding noted_cells
 noted_more p i [] x = refl
 noted_more p i (y ∷ xs) x = noted_more (noted (noted p i y.put_in) i y.struck) i xs x
+
+-- what the set has after a mark, and after two
+pub noted_keeps : (p q : List ℕ) (i m n : ℕ) → i < 2048 → 10240 ≤ length p → q ≡ noted p i m → (0 < n → Has p i n) → 0 < n → Has q i n
+noted_keeps p q i m n l w e h some = rw e ((noted_grown p i m l w).has i n l (h some))
+
+pub noted_two : (p q r : List ℕ) (i m n : ℕ) → i < 2048 → 10240 ≤ length p → q ≡ noted p i m → r ≡ noted q i n → (0 < m → Has r i m) × (0 < n → Has r i n)
+noted_two p q r i m n l w e f =
+    let g : Grown p q = rw e (noted_grown p i m l w) in
+    let long = g.beside.long in
+    let w' : 10240 ≤ length q = omega arith in
+    let first : 0 < m → Has q i m = λ some. rw e (noted_has p i m l w some) in
+    (noted_keeps q r i n m l w' f first, (λ some. rw f (noted_has q i n l w' some)))
 
 -- one cell more of a run
 pub noted_next : (c p q r t : List ℕ) (i from j : ℕ) (x : Cell) → q ≡ noted_cells p i (cells_at c from j) → x ≡ cell_at c (from + j)

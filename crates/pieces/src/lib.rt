@@ -3,7 +3,7 @@
 // a slot). Every slot is a piece of the text, an unused one has no cells. Words of `c` past the slots and words of `p` past 10240 are never touched.
 #![tactic(auto)]
 
-ghost use Rattle.std.specs.Prelude.{◌≡◌, ℕ, ◌+◌, ◌-◌, ◌*◌, ◌/◌, ◌<◌, ◌≤◌, false, ◌≢◌, List, [], ◌++◌, length, take, drop, replicate, slice_index_or, slice_set};
+ghost use Rattle.std.specs.Prelude.{◌≡◌, ℕ, ◌+◌, ◌-◌, ◌*◌, ◌/◌, ◌<◌, ◌≤◌, false, ◌≢◌, List, [], ◌++◌, length, take, drop, set, replicate, slice_index_or, slice_set};
 ghost use Rattle.model.specs.Values.{cell_of};
 ghost use Rattle.std.specs.List.{range_with_len, AllByRecursion};
 ghost use Rattle.pieces.specs.Store.{used as uses, slot, number, piece, cells_of, before, no_cell, cleared_cells, cleared_words, Edited, Gap, Located, Order, Table, Store};
@@ -18,8 +18,11 @@ use model::Cell;
 // How many cells a slot takes.
 const CELLS: usize = 1024;
 
-// How many cells a piece gets when pieces are packed: room is left, so that not every put cuts a piece.
+// How many cells a piece gets when pieces are packed, or when many cells are put in: room is left, so that not every put cuts a piece.
 const FULL: usize = 768;
+
+// Up to so many cells are put in at once. More are put in in two steps, so that no step fills both parts of a piece that it cuts.
+const STEP: usize = 512;
 
 // The words of `p` where the tree begins, where its leaves begin, where the first and the second words of the sets of marks begin, and where these end.
 const TREE: usize = 2048;
@@ -154,6 +157,17 @@ pub fn remark(c: &[u32], p: &mut [u32], s: usize, k: usize)
     note_cells(p, i, c, CELLS * i, n);
 }
 
+// Makes the sets of marks of all pieces anew.
+fn remark_all(c: &[u32], p: &mut [u32], s: usize)
+    requires { Store c.now p.old s }
+    ensures beside { Beside p.old p.new }
+    ensures store { Store c.now p.new s }
+{
+    for k in 0..s {
+        remark(c, p, s, k);
+    }
+}
+
 // Puts letters into the text at `place`: new cells in one style, put in by one change.
 pub fn put(
     c: &mut [u32],
@@ -193,16 +207,13 @@ pub fn insert(
     requires fits { length (cells_of c.old p.old s) + n ≤ 768 * (s - 1) }
     ensures { Edited c.old p.old c.new p.new s (take place (cells_of c.old p.old s) ++ (cells_at new.now from n ++ drop place (cells_of c.old p.old s))) }
 {
-    let spot = gap(p, s, place);
-    let has = used(p, spot.piece) + n;
-    let last = used(p, s - 1);
-    if has <= CELLS || last == 0 {
-        insert_at(c, p, s, spot, new, from, n);
+    if n <= STEP {
+        insert_some(c, p, s, place, new, from, n);
         return;
     }
-    repack(c, p, s);
-    let spot = gap(p, s, place);
-    insert_at(c, p, s, spot, new, from, n);
+    let first = n / 2;
+    insert_some(c, p, s, place, new, from, first);
+    insert_some(c, p, s, place + first, new, from + first, n - first);
 }
 
 // Takes `n` cells out of the text, from `place` on.
@@ -254,7 +265,37 @@ fn enumerate(w: &mut [u32], n: usize)
     }
 }
 
-// Where a cell that is put in at `place` goes: at the front, or just behind the cell before it.
+// Puts at most 512 cells in, as `insert` does.
+fn insert_some(
+    c: &mut [u32],
+    p: &mut [u32],
+    s: usize,
+    place: usize,
+    new: &[u32],
+    from: usize,
+    n: usize,
+)
+    requires store { Store c.old p.old s }
+    requires place { place ≤ length (cells_of c.old p.old s) }
+    requires source { 4 * (from + n) ≤ length new.now }
+    requires few { n ≤ 512 }
+    requires fits { length (cells_of c.old p.old s) + n ≤ 768 * (s - 1) }
+    ensures { Edited c.old p.old c.new p.new s (take place (cells_of c.old p.old s) ++ (cells_at new.now from n ++ drop place (cells_of c.old p.old s))) }
+{
+    let spot = gap(p, s, place);
+    let has = used(p, spot.piece) + n;
+    let last = used(p, s - 1);
+    if has <= CELLS || last == 0 {
+        insert_at(c, p, s, spot, new, from, n);
+        return;
+    }
+    repack(c, p, s);
+    let spot = gap(p, s, place);
+    insert_at(c, p, s, spot, new, from, n);
+}
+
+// Where a cell that is put in at `place` goes: at the front, or just behind the cell before it; if that is the last of a piece of 768 cells or more, to the
+// front of the next piece.
 fn gap(p: &[u32], s: usize, place: usize) -> Spot
     requires table { Table p.now s }
     requires place { place ≤ before p.now s }
@@ -267,30 +308,52 @@ fn gap(p: &[u32], s: usize, place: usize) -> Spot
         };
     }
     let spot = locate(p, s, place - 1);
+    let k = spot.piece;
+    let o = spot.offset + 1;
+    if o >= FULL && o == used(p, k) && k + 1 < s {
+        return Spot {
+            piece: k + 1,
+            offset: 0,
+        };
+    }
     Spot {
-        piece: spot.piece,
-        offset: spot.offset + 1,
+        piece: k,
+        offset: o,
     }
 }
 
-// Puts the cells in at a gap. If they do not fit the piece there, it is cut at the gap, which takes the last piece.
+// How many cells a piece may have after `n` more: as many as its slot takes, if a packed piece has room for so many or the last piece is in use.
+fn limit(p: &[u32], s: usize, n: usize) -> usize
+    requires order { Order p.now s }
+    ensures least { 768 ≤ result }
+    ensures most { result ≤ 1024 }
+    ensures spare { result < 1024 → uses p.now (s - 1) ≡ 0 }
+{
+    if n <= CELLS - FULL || used(p, s - 1) > 0 {
+        return CELLS;
+    }
+    FULL
+}
+
+// Puts the cells in at a gap. If the piece there would have more than its limit, it is cut at the gap, which takes the last piece.
 fn insert_at(c: &mut [u32], p: &mut [u32], s: usize, spot: Spot, new: &[u32], from: usize, n: usize)
     requires store { Store c.old p.old s }
     requires here { spot.piece < s }
     requires within { spot.offset ≤ uses p.old spot.piece }
     requires source { 4 * (from + n) ≤ length new.now }
-    requires few { n ≤ 1024 }
+    requires few { n ≤ 512 }
     requires spare { 1024 < uses p.old spot.piece + n → uses p.old (s - 1) ≡ 0 }
     ensures { Edited c.old p.old c.new p.new s (replaced (cells_of c.old p.old s) (before p.old spot.piece + spot.offset) 0 (cells_at new.now from n)) }
 {
     let k = spot.piece;
     let o = spot.offset;
-    if used(p, k) + n <= CELLS {
+    if used(p, k) + n <= limit(p, s, n) {
         insert_here(c, p, s, k, o, new, from, n);
         return;
     }
     split(c, p, s, k, o);
-    let first = n.min(CELLS - o);
+    let end = o.max(FULL);
+    let first = n.min(end - o);
     insert_here(c, p, s, k, o, new, from, first);
     insert_here(c, p, s, k + 1, 0, new, from + first, n - first);
 }
@@ -357,6 +420,19 @@ fn note(p: &mut [u32], i: usize, mark: u32)
     p[HIGH + i] = high;
 }
 
+// The same with the mark of the next cell, where the set has the `last` one's, if that is a mark: the two are often the same.
+fn note_next(p: &mut [u32], i: usize, next: u32, last: u32)
+    requires inside { i < 2048 }
+    requires words { 10240 ≤ length p.old }
+    requires last { 0 < last → Has p.old i last }
+    ensures { p.new ≡ noted p.old i next }
+{
+    if next == last {
+        return;
+    }
+    note(p, i, next);
+}
+
 // The set of slot `i` gets the marks of `n` cells of `c`, from number `from` on.
 fn note_cells(p: &mut [u32], i: usize, c: &[u32], from: usize, n: usize)
     requires inside { i < 2048 }
@@ -364,10 +440,14 @@ fn note_cells(p: &mut [u32], i: usize, c: &[u32], from: usize, n: usize)
     requires source { 4 * (from + n) ≤ length c.now }
     ensures { p.new ≡ noted_cells p.old i (cells_at c.now from n) }
 {
+    let mut put_in = 0;
+    let mut struck = 0;
     for j in 0..n {
         let cell = slots::read(c, from + j);
-        note(p, i, cell.put_in);
-        note(p, i, cell.struck);
+        note_next(p, i, cell.put_in, put_in);
+        note_next(p, i, cell.struck, struck);
+        put_in = cell.put_in;
+        struck = cell.struck;
     }
 }
 
@@ -506,8 +586,22 @@ fn rotate(p: &mut [u32], from: usize, to: usize)
     p[from] = last;
 }
 
-// Cuts piece `k` at its cell `o`: the last piece, which is empty, moves behind it and takes what follows.
+// Cuts piece `k` at its cell `o`: the last piece, which is empty, moves behind it and takes what follows. Each half then has the marks of its own cells only.
 fn split(c: &mut [u32], p: &mut [u32], s: usize, k: usize, o: usize)
+    requires store { Store c.old p.old s }
+    requires here { k + 1 < s }
+    requires within { o ≤ uses p.old k }
+    requires spare { uses p.old (s - 1) ≡ 0 }
+    ensures cut { Cut c.old p.old c.new p.new s k o }
+    ensures sums { Sums (drop 2048 p.new) }
+{
+    cut_at(c, p, s, k, o);
+    remark(c, p, s, k);
+    remark(c, p, s, k + 1);
+}
+
+// The same, where the new piece has the marks of both.
+fn cut_at(c: &mut [u32], p: &mut [u32], s: usize, k: usize, o: usize)
     requires store { Store c.old p.old s }
     requires here { k + 1 < s }
     requires within { o ≤ uses p.old k }
@@ -522,8 +616,20 @@ fn split(c: &mut [u32], p: &mut [u32], s: usize, k: usize, o: usize)
     recount(p, s);
 }
 
-// Packs the cells together: fills each piece up to 768 cells from those behind it. The last piece is empty afterwards, unless there are too many cells.
+// Packs the cells together: fills each piece up to 768 cells from those behind it. The last piece is empty afterwards, unless there are too many cells. Each
+// piece then has the marks of its own cells only.
 fn repack(c: &mut [u32], p: &mut [u32], s: usize)
+    requires { Store c.old p.old s }
+    ensures same { SameText c.old p.old c.new p.new s }
+    ensures sums { Sums (drop 2048 p.new) }
+    ensures spare { before p.old s < 768 * (s - 1) → uses p.new (s - 1) ≡ 0 }
+{
+    pack(c, p, s);
+    remark_all(c, p, s);
+}
+
+// The same, where a piece has the marks of those that it was filled from too.
+fn pack(c: &mut [u32], p: &mut [u32], s: usize)
     requires { Store c.old p.old s }
     ensures same { SameText c.old p.old c.new p.new s }
     ensures sums { Sums (drop 2048 p.new) }

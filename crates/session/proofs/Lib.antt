@@ -2,11 +2,13 @@ mod Acting
 mod Heads
 mod Judging
 mod Keeping
+mod Logging
 mod Looking
 mod Opening
 mod Putting
 mod Ranges
 mod Saying
 mod Serving
+mod Reversing
+mod Stored
 mod Striking
-mod Writing

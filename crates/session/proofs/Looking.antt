@@ -1,9 +1,9 @@
--- Calls that only look: count and show. Assumes nothing.
+-- Calls that only look: count, show, find and save. Assumes nothing.
 use Rattle.std.proofs.Common.{◌≡◌, ℕ, suc, ◌+◌, ◌<◌, ◌≤◌, Bool, true, false, ◌&&◌, ltb, leb, List, [], ◌∷◌, length, get_or, take, drop, refl, arith, ltb-true, le-leb, leb-true}
 use borrow.Author.Tests.{lt-leb}
-use Rattle.model.specs.Paper.{pick, Cell, seen, view}
-use Rattle.model.specs.Rows.{rows}
-use Rattle.model.specs.Calls.{count, show, number, lines, refused, call_number, good_fields, turned_by, writes, rewritten, moved, fits, told, place}
+use Rattle.model.specs.Paper.{pick, Cell, seen, view, written}
+use Rattle.model.specs.Rows.{rows, find_in}
+use Rattle.model.specs.Calls.{count, show, find, save, number, lines, numbers, refused, call_number, good_letters, good_fields, turned_by, writes, rewritten, moved, fits, told, place}
 use Rattle.changes.proofs.Row.{length_changes}
 use Rattle.session.specs.Memory.{limits_of, paper_of, Held}
 use Rattle.session.specs.Acts.{desk_of, Acted}
@@ -60,3 +60,38 @@ module _ (cs ps : List ℕ) (k w r n : ℕ) (held : Held cs ps) (good : good_fie
       let c = both_true (leb 1 w) (leb w 256) b.0 in
       let d = both_true (leb 1 n) (leb n 64) b.1 in
       (ltb-true k 3 a.0, leb-true 1 w c.0, leb-true w 256 c.1, leb-true n 64 d.1)
+
+-- letters that are found, or not
+module _ (cs ps : List ℕ) (k i : ℕ) (ls : List ℕ) (held : Held cs ps) (good : good_fields (find k i ls) ≡ true) where
+  pub found : Acted cs ps (find k i ls) cs ps (number (find_in (view k (paper_of cs ps).cells) ls i 0))
+  unfolding call_number turned_by writes rewritten moved told
+  found = looked cs ps (find k i ls) held (turned_not (limits_of ps) (desk_of cs ps) (find k i ls) good refl (fits_now cs ps held)) refl refl
+
+  pub find_range : (k < 3) × (1 ≤ length ls) × (length ls ≤ 256)
+  unfolding good_fields
+  find_range =
+      let a = both_true (ltb k 3) (good_letters ls && (leb 1 (length ls) && leb (length ls) 256)) good in
+      let b = both_true (good_letters ls) (leb 1 (length ls) && leb (length ls) 256) a.1 in
+      let c = both_true (leb 1 (length ls)) (leb (length ls) 256) b.1 in
+      (ltb-true k 3 a.0, leb-true 1 (length ls) c.0, leb-true (length ls) 256 c.1)
+
+-- numbers of the file
+module _ (cs ps : List ℕ) (i n : ℕ) (held : Held cs ps) (good : good_fields (save i n) ≡ true) where
+  abbrev file : List ℕ
+  file = written (paper_of cs ps)
+
+  pub saved : i + n ≤ length file → Acted cs ps (save i n) cs ps (numbers (take n (drop i file)))
+  unfolding call_number turned_by writes rewritten moved told
+  saved h =
+      let there : turned_by (desk_of cs ps) (save i n) ≡ 0 = rw (le-leb (i + n) (length file) h) refl in
+      looked cs ps (save i n) held (turned_not (limits_of ps) (desk_of cs ps) (save i n) good there (fits_now cs ps held)) refl refl
+
+  pub not_saved : length file < i + n → Acted cs ps (save i n) cs ps (refused 8 0)
+  unfolding call_number turned_by place
+  not_saved h =
+      let gone : turned_by (desk_of cs ps) (save i n) ≡ 8 = rw (lt-leb (i + n) (length file) h) refl in
+      refuses cs ps (save i n) 7 held (turned_first (limits_of ps) (desk_of cs ps) (save i n) 7 good gone)
+
+  pub save_few : n ≤ 1024
+  unfolding good_fields
+  save_few = leb-true n 1024 (both_true (leb 1 n) (leb n 1024) good).1

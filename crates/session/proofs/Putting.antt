@@ -4,12 +4,14 @@ use Rattle.std.proofs.lemmas.List.{length-append}
 use Rattle.model.specs.Paper.{Paper, Cell, Change, new_cells}
 use Rattle.model.specs.Calls.{put, number, refused, call_number, good_fields, good_call, good_letters, Limits, turned_by, writes, rewritten, fits, turned, told, place}
 use Rattle.changes.proofs.Row.{length_changes}
+use Rattle.history.specs.Entry.{was_put, entry_of}
 use Rattle.pieces.specs.Store.{before}
 use Rattle.pieces.proofs.Texts.{length_text}
 use Rattle.session.specs.Memory.{limits_of, slots_of, tables, paper_of, Held}
-use Rattle.session.specs.Acts.{Wrote, desk_of, Acted, Rowed, allows, row_of, with_cells}
-use Rattle.session.proofs.Acting.{turned_first, turned_last, turned_not, refuses, wrote_it}
-use Rattle.session.proofs.Writing.{inserted_length, rowed_too}
+use Rattle.session.specs.Acts.{Wrote, desk_of, Rowed, allows, row_of, with_cells}
+use Rattle.session.proofs.Acting.{turned_first, turned_last, turned_not}
+use Rattle.session.proofs.Logging.{Leaves, Recorded, turned_away, carried_out}
+use Rattle.session.proofs.Stored.{inserted_length, noted_too}
 
 pub both_true : (a b : Bool) → (a && b) ≡ true → (a ≡ true) × (b ≡ true)
 both_true true b h = (refl, h)
@@ -32,6 +34,17 @@ still {cs} {ps} {cs'} {ps'} w =
     let a : length (paper_of cs' ps').changes ≡ length (paper_of cs ps).changes = ap (λ (p : Paper). length p.changes) w.paper in
     (sym (changes_counted cs' ps') ∙ (a ∙ changes_counted cs ps), ap (λ (l : Limits). l.changes) w.limits)
 
+-- the cells of a put and then its change were written
+pub put_written : {cs ps cs' ps' qs : List ℕ} (a i s : ℕ) (ls : List ℕ) →
+    Wrote cs ps cs' ps' (with_cells (paper_of cs ps) (take i (paper_of cs ps).cells ++ (new_cells ls s (get_or ps 3 0) ++ drop i (paper_of cs ps).cells))) →
+    Rowed ps' qs (row_of ps' ++ (record { author = a; became = 0 } ∷ [])) → Wrote cs ps cs' qs (rewritten (paper_of cs ps) (put a i s ls))
+unfolding rewritten
+put_written {cs} {ps} {cs'} {ps'} {qs} a i s ls w note =
+    let p : Paper = paper_of cs ps in
+    let new : Change = record { author = a; became = 0 } in
+    subst (λ (m : ℕ). Wrote cs ps cs' qs (record { cells = take i p.cells ++ (new_cells ls s m ++ drop i p.cells); changes = p.changes ++ (new ∷ []) }))
+    (sym (changes_counted cs ps)) (noted_too (λ (rs : List Change). rs ++ (new ∷ [])) w note)
+
 -- The paper has n cells.
 module _ {cs ps : List ℕ} (held : Held cs ps) {n : ℕ} (counts : n ≡ before (tables ps) (slots_of ps)) where
   pub cells_counted : length (paper_of cs ps).cells ≡ n
@@ -44,7 +57,7 @@ module _ {cs ps : List ℕ} (held : Held cs ps) {n : ℕ} (counts : n ≡ before
       let l : get_or ps 3 0 < get_or ps 1 0 = ltb-true (get_or ps 3 0) (get_or ps 1 0) e.1 in
       (omega (arith, cells_counted), l)
 
-module _ {cs ps : List ℕ} (held : Held cs ps) {n : ℕ} (counts : n ≡ before (tables ps) (slots_of ps)) (a i s : ℕ) (ls : List ℕ) (good : good_fields (put a i s ls) ≡ true) where
+module _ {cs ps : List ℕ} (held : Held cs ps) {n : ℕ} (counts : n ≡ before (tables ps) (slots_of ps)) (us : List ℕ) (a i s : ℕ) (ls : List ℕ) (good : good_fields (put a i s ls) ≡ true) where
   good_put : good_call (limits_of ps) (put a i s ls) ≡ true
   unfolding call_number
   good_put = good
@@ -66,25 +79,17 @@ module _ {cs ps : List ℕ} (held : Held cs ps) {n : ℕ} (counts : n ≡ before
       length-append (paper_of cs ps).changes (record { author = a; became = 0 } ∷ []) ∙ omega (arith, changes_counted cs ps) in
       ap₂ (λ (m k : ℕ). leb m (get_or ps 0 0) && leb k (get_or ps 1 0)) x y
 
-  pub put_nowhere : leb i n ≡ false → Acted cs ps (put a i s ls) cs ps (refused 4 1)
+  pub put_nowhere : leb i n ≡ false → Leaves cs ps us (put a i s ls) cs ps us (refused 4 1)
   unfolding place
-  put_nowhere h = refuses cs ps (put a i s ls) 3 held (turned_first (limits_of ps) (desk_of cs ps) (put a i s ls) 3 good_put (not_there h))
+  put_nowhere h = turned_away cs ps us (put a i s ls) 3 held (turned_first (limits_of ps) (desk_of cs ps) (put a i s ls) 3 good_put (not_there h))
 
-  pub put_too_much : leb i n ≡ true → allows ps (n + length ls) ≡ false → Acted cs ps (put a i s ls) cs ps (refused 9 0)
+  pub put_too_much : leb i n ≡ true → allows ps (n + length ls) ≡ false → Leaves cs ps us (put a i s ls) cs ps us (refused 9 0)
   unfolding place
-  put_too_much h k = refuses cs ps (put a i s ls) 8 held (turned_last (limits_of ps) (desk_of cs ps) (put a i s ls) good_put (there h) (fit ∙ k))
+  put_too_much h k = turned_away cs ps us (put a i s ls) 8 held (turned_last (limits_of ps) (desk_of cs ps) (put a i s ls) good_put (there h) (fit ∙ k))
 
-  pub put_done : {cs' ps' qs : List ℕ} {at m : ℕ} → at ≡ i → m ≡ get_or ps 3 0 → leb i n ≡ true → allows ps (n + length ls) ≡ true →
-      Wrote cs ps cs' ps' (with_cells (paper_of cs ps) (take at (paper_of cs ps).cells ++ (new_cells ls s m ++ drop at (paper_of cs ps).cells))) →
-      Rowed ps' qs (row_of ps' ++ (record { author = a; became = 0 } ∷ [])) → Acted cs ps (put a i s ls) cs' qs (number m)
-  unfolding told writes rewritten
-  put_done {cs'} {ps'} {qs} {at} {m} e f h k w note =
-      let p : Paper = paper_of cs ps in
-      let row : row_of ps' ≡ p.changes = ap (λ (r : Paper). r.changes) w.paper in
-      let rows : List Change = p.changes ++ (record { author = a; became = 0 } ∷ []) in
+  pub put_done : {cs' qs us' : List ℕ} → leb i n ≡ true → allows ps (n + length ls) ≡ true → Recorded us us' (get_or ps 2 0) (was_put a i s ls) →
+      Wrote cs ps cs' qs (rewritten (paper_of cs ps) (put a i s ls)) → Leaves cs ps us (put a i s ls) cs' qs us' (number (get_or ps 3 0))
+  unfolding told writes entry_of
+  put_done {cs'} {qs} {us'} h k note done =
       let t : turned (limits_of ps) (desk_of cs ps) (put a i s ls) ≡ 0 = turned_not (limits_of ps) (desk_of cs ps) (put a i s ls) good_put (there h) (fit ∙ k) in
-      let new : m ≡ length p.changes = f ∙ sym (changes_counted cs ps) in
-      let done : Wrote cs ps cs' qs (rewritten p (put a i s ls)) =
-      rw (e, new) at (rowed_too cs ps cs' ps' qs (with_cells p (take at p.cells ++ (new_cells ls s m ++ drop at p.cells))) rows w
-      (subst (λ (rs : List Change). Rowed ps' qs (rs ++ (record { author = a; became = 0 } ∷ []))) row note)) in
-      rw new (wrote_it cs ps cs' qs (put a i s ls) t refl done)
+      subst (λ (m : ℕ). Leaves cs ps us (put a i s ls) cs' qs us' (number m)) (changes_counted cs ps) (carried_out cs ps us cs' qs us' (put a i s ls) t refl note done)

@@ -25,7 +25,7 @@ first_bytes bs out out' r e l = (ap (take r) e ∙ take_at bs (drop r out) r (sy
 pub first_within : (bs out out' : List ℕ) (r : ℕ) → out' ≡ bs ++ drop r out → r ≡ length bs → length out' ≡ length out → r ≤ length out
 first_within bs out out' r e l k = let n : length out' ≡ length bs + length (drop r out) = ap length e ∙ length-append bs (drop r out) in omega arith
 
-nowhere : (c : Call) → place c 2 ≡ 0
+pub nowhere : (c : Call) → place c 2 ≡ 0
 unfolding place
 nowhere (put a i s ls) = refl
 nowhere (strikes a i n) = refl

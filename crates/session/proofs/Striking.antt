@@ -1,20 +1,22 @@
 -- When a strike or a style is turned away, and what it leaves. Assumes nothing.
 use Rattle.std.proofs.Common.{◌≡◌, ℕ, suc, ◌+◌, ◌<◌, ◌≤◌, Bool, true, false, ◌&&◌, ltb, leb, List, [], ◌∷◌, ◌++◌, length, get_or, take, drop, sym, refl, ap, ◌∙◌, subst, ap₂, arith, ltb-true, le-leb, leb-true}
 use Rattle.std.proofs.lemmas.List.{length-append, length-drop, length-take-le}
-use Rattle.model.specs.Paper.{pick, Paper, Cell, Change}
+use Rattle.model.specs.Paper.{pick, Cell, Change}
 use Rattle.model.specs.Calls.{strikes, styles, number, refused, call_number, good_fields, good_call, turned_by, writes, rewritten, fits, turned, told, place}
 use Rattle.sweep.specs.declared.Action.{Action}
 use Rattle.sweep.specs.declared.Action.TheVariants.{Strike, Style}
 use Rattle.sweep.specs.Sweep.{goes, changed, fate, swept, swept_run}
 use Rattle.sweep.proofs.Laws.{one_meaning}
+use Rattle.history.specs.Entry.{entry_of}
 use Rattle.pieces.specs.Store.{before}
 use Rattle.pieces.proofs.Texts.{length_text}
 use Rattle.changes.proofs.Row.{length_changes}
 use Rattle.session.specs.Memory.{limits_of, slots_of, tables, paper_of, Held}
-use Rattle.session.specs.Acts.{Wrote, desk_of, Acted, Rowed, allows, row_of, with_cells}
-use Rattle.session.proofs.Acting.{turned_first, turned_last, turned_not, refuses, wrote_it}
+use Rattle.session.specs.Acts.{Wrote, desk_of, Rowed, allows, row_of, with_cells}
+use Rattle.session.proofs.Acting.{turned_first, turned_last, turned_not}
+use Rattle.session.proofs.Logging.{Leaves, Recorded, turned_away, carried_out}
 use Rattle.session.proofs.Putting.{both_true}
-use Rattle.session.proofs.Writing.{rowed_too}
+use Rattle.session.proofs.Stored.{noted_too}
 
 -- a sweep makes no text longer
 pub length_swept : (a : Action) (cs : List Change) (xs : List Cell) → length (swept a cs xs) ≤ length xs
@@ -53,10 +55,35 @@ module _ (cs ps : List ℕ) (held : Held cs ps) where
   changes_there : length (paper_of cs ps).changes ≡ get_or ps 3 0
   changes_there = length_changes (drop 16 ps) 0 (get_or ps 3 0)
 
+  struck_is : (a i n : ℕ) → (rewritten (paper_of cs ps) (strikes a i n)).cells ≡ swept_run (Strike a (get_or ps 3 0)) (paper_of cs ps).changes (paper_of cs ps).cells i n
+  unfolding rewritten
+  struck_is a i n =
+      (one_meaning (paper_of cs ps).changes (paper_of cs ps).cells).2 i n a (length (paper_of cs ps).changes)
+      ∙ ap (λ (m : ℕ). swept_run (Strike a m) (paper_of cs ps).changes (paper_of cs ps).cells i n) changes_there
+
+  styled_is : (i n s : ℕ) → (rewritten (paper_of cs ps) (styles i n s)).cells ≡ swept_run (Style s) (paper_of cs ps).changes (paper_of cs ps).cells i n
+  unfolding rewritten
+  styled_is i n s = (one_meaning (paper_of cs ps).changes (paper_of cs ps).cells).3 i n s
+
+  -- the cells of a strike and then its change were written; the cells of a style
+  pub strike_written : (a i n : ℕ) {cs' ps' qs : List ℕ} →
+      Wrote cs ps cs' ps' (with_cells (paper_of cs ps) (swept_run (Strike a (get_or ps 3 0)) (row_of ps) (paper_of cs ps).cells i n)) →
+      Rowed ps' qs (row_of ps' ++ (record { author = a; became = 0 } ∷ [])) → Wrote cs ps cs' qs (rewritten (paper_of cs ps) (strikes a i n))
+  unfolding rewritten
+  strike_written a i n {cs'} {ps'} {qs} w note =
+      let new : Change = record { author = a; became = 0 } in
+      subst (λ (ys : List Cell). Wrote cs ps cs' qs (record { cells = ys; changes = row_of ps ++ (new ∷ []) })) (sym (struck_is a i n))
+      (noted_too (λ (rs : List Change). rs ++ (new ∷ [])) w note)
+
+  pub style_written : (i n s : ℕ) {cs' ps' : List ℕ} →
+      Wrote cs ps cs' ps' (with_cells (paper_of cs ps) (swept_run (Style s) (row_of ps) (paper_of cs ps).cells i n)) → Wrote cs ps cs' ps' (rewritten (paper_of cs ps) (styles i n s))
+  unfolding rewritten
+  style_written i n s {cs'} {ps'} w = subst (λ (ys : List Cell). Wrote cs ps cs' ps' (with_cells (paper_of cs ps) ys)) (sym (styled_is i n s)) w
+
   pub few_enough : (xs : List Cell) → length xs ≤ length (paper_of cs ps).cells → leb (length xs) (get_or ps 0 0) ≡ true
   few_enough xs h = le-leb (length xs) (get_or ps 0 0) (omega (arith, held.cells_fit))
 
-  module _ (a i n : ℕ) (good : good_fields (strikes a i n) ≡ true) where
+  module _ (us : List ℕ) (a i n : ℕ) (good : good_fields (strikes a i n) ≡ true) where
     good_strike : good_call (limits_of ps) (strikes a i n) ≡ true
     unfolding call_number
     good_strike = good
@@ -65,19 +92,13 @@ module _ (cs ps : List ℕ) (held : Held cs ps) where
     unfolding turned_by
     struck_there b h = rw cells_there (rw h refl)
 
-    struck_is : (rewritten (paper_of cs ps) (strikes a i n)).cells ≡ swept_run (Strike a (get_or ps 3 0)) (paper_of cs ps).changes (paper_of cs ps).cells i n
-    unfolding rewritten
-    struck_is =
-        (one_meaning (paper_of cs ps).changes (paper_of cs ps).cells).2 i n a (length (paper_of cs ps).changes)
-        ∙ ap (λ (m : ℕ). swept_run (Strike a m) (paper_of cs ps).changes (paper_of cs ps).cells i n) changes_there
-
     struck_fit : leb (i + n) (before (tables ps) (slots_of ps)) ≡ true → fits (limits_of ps) (rewritten (paper_of cs ps) (strikes a i n)) ≡ allows ps (before (tables ps) (slots_of ps))
     unfolding rewritten
     struck_fit h =
         let inside : i + n ≤ length (paper_of cs ps).cells = omega (arith, leb-true (i + n) (before (tables ps) (slots_of ps)) h, cells_there) in
         let ys : List Cell = (rewritten (paper_of cs ps) (strikes a i n)).cells in
         let short : length ys ≤ length (paper_of cs ps).cells =
-        subst (λ (zs : List Cell). length zs ≤ length (paper_of cs ps).cells) (sym struck_is)
+        subst (λ (zs : List Cell). length zs ≤ length (paper_of cs ps).cells) (sym (struck_is a i n))
         (length_swept_run (Strike a (get_or ps 3 0)) (paper_of cs ps).changes (paper_of cs ps).cells i n inside) in
         let x : leb (length ys) (get_or ps 0 0) ≡ leb (before (tables ps) (slots_of ps)) (get_or ps 0 0) =
         few_enough ys short ∙ sym (le-leb (before (tables ps) (slots_of ps)) (get_or ps 0 0) (omega (arith, held.cells_fit, cells_there))) in
@@ -85,31 +106,24 @@ module _ (cs ps : List ℕ) (held : Held cs ps) where
         length-append (paper_of cs ps).changes (record { author = a; became = 0 } ∷ []) ∙ omega (arith, changes_there) in
         ap₂ ◌&&◌ x (ap (λ (m : ℕ). leb m (get_or ps 1 0)) y)
 
-    pub strike_nowhere : leb (i + n) (before (tables ps) (slots_of ps)) ≡ false → Acted cs ps (strikes a i n) cs ps (refused 4 1)
+    pub strike_nowhere : leb (i + n) (before (tables ps) (slots_of ps)) ≡ false → Leaves cs ps us (strikes a i n) cs ps us (refused 4 1)
     unfolding place
-    strike_nowhere h = refuses cs ps (strikes a i n) 3 held (turned_first (limits_of ps) (desk_of cs ps) (strikes a i n) 3 good_strike (struck_there false h))
+    strike_nowhere h = turned_away cs ps us (strikes a i n) 3 held (turned_first (limits_of ps) (desk_of cs ps) (strikes a i n) 3 good_strike (struck_there false h))
 
-    pub strike_too_much : leb (i + n) (before (tables ps) (slots_of ps)) ≡ true → allows ps (before (tables ps) (slots_of ps)) ≡ false → Acted cs ps (strikes a i n) cs ps (refused 9 0)
+    pub strike_too_much : leb (i + n) (before (tables ps) (slots_of ps)) ≡ true → allows ps (before (tables ps) (slots_of ps)) ≡ false → Leaves cs ps us (strikes a i n) cs ps us (refused 9 0)
     unfolding place
-    strike_too_much h k = refuses cs ps (strikes a i n) 8 held (turned_last (limits_of ps) (desk_of cs ps) (strikes a i n) good_strike (struck_there true h) (struck_fit h ∙ k))
+    strike_too_much h k = turned_away cs ps us (strikes a i n) 8 held (turned_last (limits_of ps) (desk_of cs ps) (strikes a i n) good_strike (struck_there true h) (struck_fit h ∙ k))
 
-    pub strike_done : (cs' ps' qs : List ℕ) → leb (i + n) (before (tables ps) (slots_of ps)) ≡ true → allows ps (before (tables ps) (slots_of ps)) ≡ true →
-        Wrote cs ps cs' ps' (with_cells (paper_of cs ps) (swept_run (Strike a (get_or ps 3 0)) (paper_of cs ps).changes (paper_of cs ps).cells i n)) →
-        Rowed ps' qs (row_of ps' ++ (record { author = a; became = 0 } ∷ [])) → Acted cs ps (strikes a i n) cs' qs (number (get_or ps 3 0))
-    unfolding told writes rewritten
-    strike_done cs' ps' qs h k w note =
-        let p : Paper = paper_of cs ps in
-        let xs : List Cell = swept_run (Strike a (get_or ps 3 0)) p.changes p.cells i n in
-        let rows : List Change = p.changes ++ (record { author = a; became = 0 } ∷ []) in
-        let row : row_of ps' ≡ p.changes = ap (λ (r : Paper). r.changes) w.paper in
+    pub strike_done : {cs' qs us' : List ℕ} → leb (i + n) (before (tables ps) (slots_of ps)) ≡ true → allows ps (before (tables ps) (slots_of ps)) ≡ true →
+        Recorded us us' (get_or ps 2 0) (entry_of (paper_of cs ps) (strikes a i n)) → Wrote cs ps cs' qs (rewritten (paper_of cs ps) (strikes a i n)) →
+        Leaves cs ps us (strikes a i n) cs' qs us' (number (get_or ps 3 0))
+    unfolding told writes
+    strike_done {cs'} {qs} {us'} h k note done =
         let t : turned (limits_of ps) (desk_of cs ps) (strikes a i n) ≡ 0 =
         turned_not (limits_of ps) (desk_of cs ps) (strikes a i n) good_strike (struck_there true h) (struck_fit h ∙ k) in
-        let all : Wrote cs ps cs' qs (record { cells = xs; changes = rows }) =
-        rowed_too cs ps cs' ps' qs (with_cells p xs) rows w (subst (λ (rs : List Change). Rowed ps' qs (rs ++ (record { author = a; became = 0 } ∷ []))) row note) in
-        let done : Wrote cs ps cs' qs (rewritten p (strikes a i n)) = subst (λ (ys : List Cell). Wrote cs ps cs' qs (record { cells = ys; changes = rows })) (sym struck_is) all in
-        subst (λ (m : ℕ). Acted cs ps (strikes a i n) cs' qs (number m)) changes_there (wrote_it cs ps cs' qs (strikes a i n) t refl done)
+        subst (λ (m : ℕ). Leaves cs ps us (strikes a i n) cs' qs us' (number m)) changes_there (carried_out cs ps us cs' qs us' (strikes a i n) t refl note done)
 
-  module _ (i n s : ℕ) (good : good_fields (styles i n s) ≡ true) where
+  module _ (us : List ℕ) (i n s : ℕ) (good : good_fields (styles i n s) ≡ true) where
     good_style : good_call (limits_of ps) (styles i n s) ≡ true
     unfolding call_number
     good_style = good
@@ -118,29 +132,26 @@ module _ (cs ps : List ℕ) (held : Held cs ps) where
     unfolding turned_by
     styled_there b h = rw cells_there (rw h refl)
 
-    styled_is : (rewritten (paper_of cs ps) (styles i n s)).cells ≡ swept_run (Style s) (paper_of cs ps).changes (paper_of cs ps).cells i n
-    unfolding rewritten
-    styled_is = (one_meaning (paper_of cs ps).changes (paper_of cs ps).cells).3 i n s
-
     styled_fit : leb (i + n) (before (tables ps) (slots_of ps)) ≡ true → fits (limits_of ps) (rewritten (paper_of cs ps) (styles i n s)) ≡ true
     unfolding rewritten
     styled_fit h =
         let inside : i + n ≤ length (paper_of cs ps).cells = omega (arith, leb-true (i + n) (before (tables ps) (slots_of ps)) h, cells_there) in
         let ys : List Cell = (rewritten (paper_of cs ps) (styles i n s)).cells in
         let short : length ys ≤ length (paper_of cs ps).cells =
-        subst (λ (zs : List Cell). length zs ≤ length (paper_of cs ps).cells) (sym styled_is)
+        subst (λ (zs : List Cell). length zs ≤ length (paper_of cs ps).cells) (sym (styled_is i n s))
         (length_swept_run (Style s) (paper_of cs ps).changes (paper_of cs ps).cells i n inside) in
         let y : leb (length (paper_of cs ps).changes) (get_or ps 1 0) ≡ true = le-leb (length (paper_of cs ps).changes) (get_or ps 1 0) (omega (arith, held.changes_fit, changes_there)) in
         ap₂ ◌&&◌ (few_enough ys short) y
 
-    pub style_nowhere : leb (i + n) (before (tables ps) (slots_of ps)) ≡ false → Acted cs ps (styles i n s) cs ps (refused 4 0)
+    pub style_nowhere : leb (i + n) (before (tables ps) (slots_of ps)) ≡ false → Leaves cs ps us (styles i n s) cs ps us (refused 4 0)
     unfolding place
-    style_nowhere h = refuses cs ps (styles i n s) 3 held (turned_first (limits_of ps) (desk_of cs ps) (styles i n s) 3 good_style (styled_there false h))
+    style_nowhere h = turned_away cs ps us (styles i n s) 3 held (turned_first (limits_of ps) (desk_of cs ps) (styles i n s) 3 good_style (styled_there false h))
 
-    pub style_done : (cs' ps' : List ℕ) → leb (i + n) (before (tables ps) (slots_of ps)) ≡ true →
-        Wrote cs ps cs' ps' (with_cells (paper_of cs ps) (swept_run (Style s) (paper_of cs ps).changes (paper_of cs ps).cells i n)) → Acted cs ps (styles i n s) cs' ps' (number n)
-    unfolding told writes rewritten
-    style_done cs' ps' h w =
+    pub style_done : {cs' ps' us' : List ℕ} → leb (i + n) (before (tables ps) (slots_of ps)) ≡ true →
+        Recorded us us' (get_or ps 2 0) (entry_of (paper_of cs ps) (styles i n s)) → Wrote cs ps cs' ps' (rewritten (paper_of cs ps) (styles i n s)) →
+        Leaves cs ps us (styles i n s) cs' ps' us' (number n)
+    unfolding told writes
+    style_done {cs'} {ps'} {us'} h note done =
         let t : turned (limits_of ps) (desk_of cs ps) (styles i n s) ≡ 0 =
         turned_not (limits_of ps) (desk_of cs ps) (styles i n s) good_style (styled_there true h) (styled_fit h) in
-        wrote_it cs ps cs' ps' (styles i n s) t refl (subst (λ (ys : List Cell). Wrote cs ps cs' ps' (with_cells (paper_of cs ps) ys)) (sym styled_is) w)
+        carried_out cs ps us cs' ps' us' (styles i n s) t refl note done

@@ -1,14 +1,16 @@
 -- What the functions under `call` promise: they know the paper's part of memory alone. Definitions only: nothing is assumed.
 use Rattle.std.specs.Prelude.{◌≡◌, ℕ, ◌<◌, ◌≤◌, Bool, ◌&&◌, List, [], ◌++◌, length, drop, nat_le, nat_lt, slice_index, slice_index_or}
 use Rattle.model.specs.Paper.{Cell, Change, Paper}
-use Rattle.model.specs.Calls.{Call, accepts, rejects, Answer, Desk, turned, after, answer}
+use Rattle.model.specs.Calls.{Call, Answer, Desk, turned, after, answer}
 use Rattle.sweep.specs.declared.Action.{Action}
 use Rattle.sweep.specs.declared.Action.TheVariants.{Accept, Reject}
-use Rattle.session.specs.declared.deciding.Verdict.{Verdict}
-use Rattle.session.specs.declared.deciding.Verdict.TheVariants.{Accepted, Rejected}
+use Rattle.recorder.specs.Records.{Records}
+use Rattle.recorder.specs.declared.Outcome.{Outcome as Verdict}
+use Rattle.recorder.specs.declared.Outcome.TheVariants.{Accepted, Rejected}
 use Rattle.codec.specs.Bytes.{answer_bytes}
 use Rattle.changes.specs.Row.{changes_of}
-use Rattle.session.specs.Memory.{cells_words, pieces_words, limits_of, tables as tables_of, paper_of, Held}
+use Rattle.history.specs.Entry.{entry_of}
+use Rattle.session.specs.Memory.{cells_words, pieces_words, undo_words, limits_of, tables as tables_of, paper_of, Held}
 
 -- memory now holds the paper p; the limits and the words beyond are as they were
 pub record Wrote (cs ps cs' ps' : List ℕ) (p : Paper) : Type 0 where
@@ -29,6 +31,13 @@ pub record Acted (cs ps : List ℕ) (c : Call) (cs' ps' : List ℕ) (a : Answer)
   pub wrote : Wrote cs ps cs' ps' (after (limits_of ps) (desk_of cs ps) c).now
   pub says : a ≡ answer (limits_of ps) (desk_of cs ps) c
   pub kept : 0 < turned (limits_of ps) (desk_of cs ps) c → (cs' ≡ cs) × (ps' ≡ ps)
+
+-- What such a call does to the log: one that is done leaves its entry, one that is turned away changes no word.
+pub record Logs (cs ps us : List ℕ) (c : Call) (us' : List ℕ) : Type 0 where
+  pub records : turned (limits_of ps) (desk_of cs ps) c ≡ 0 → Records us us' (slice_index ps 2) (entry_of (paper_of cs ps) c)
+  pub kept : 0 < turned (limits_of ps) (desk_of cs ps) c → us' ≡ us
+  pub beyond : drop (undo_words (slice_index ps 2)) us' ≡ drop (undo_words (slice_index ps 2)) us
+  pub undo_length : length us' ≡ length us
 
 -- From ps to qs the row of changes became `rows`; the tables and the limits are as they were.
 pub record Rowed (ps qs : List ℕ) (rows : List Change) : Type 0 where
@@ -56,11 +65,7 @@ pub record Said (cs ps : List ℕ) (c : Call) (cs' ps' out out' : List ℕ) (r :
   pub bytes : out' ≡ answer_bytes (answer (limits_of ps) (desk_of cs ps) c) ++ drop r out
   pub long : r ≡ length (answer_bytes (answer (limits_of ps) (desk_of cs ps) c))
 
--- the call that a verdict is, and what then became of the change
-abbrev pub verdict_call : Verdict → ℕ → Call
-verdict_call Accepted c = accepts c
-verdict_call Rejected c = rejects c
-
+-- what becomes of a change that is decided, and what that does to the cells
 abbrev pub verdict_became : Verdict → ℕ
 verdict_became Accepted = 1
 verdict_became Rejected = 2

@@ -1,7 +1,7 @@
 -- What open and call promise of lent memory and of the answer. Definitions only: nothing is assumed.
 use Rattle.std.specs.Prelude.{◌≡◌, ℕ, ◌<◌, min, Bool, true, false, ◌&&◌, List, ◌++◌, length, drop, Ok, Err, Result, nat_le, slice_index}
 use Rattle.model.specs.Paper.{pick}
-use Rattle.model.specs.Calls.{Call, refused, Desk, Limits, turned, after, answer, new_desk}
+use Rattle.model.specs.Calls.{Call, Answer, refused, Desk, Limits, turned, after, answer, new_desk}
 use Rattle.codec.specs.Bytes.{answer_bytes}
 use Rattle.codec.specs.Reading.{Reading, reading, call_is, ceases}
 use Rattle.session.specs.Memory.{cells_words, pieces_words, undo_words, limits_of, Sound, Stands, opened_cells, opened_pieces, opened_undo}
@@ -28,6 +28,18 @@ pub record Beyond (cs ps us cs' ps' us' : List ℕ) (l : Limits) : Type 0 where
   pub cells_length : length cs' ≡ length cs
   pub pieces_length : length ps' ≡ length ps
   pub undo_length : length us' ≡ length us
+
+-- A call that could be read, at every desk that memory stands for; rs are the bytes of its answer.
+pub record Handled (cs ps us : List ℕ) (c : Call) (cs' ps' us' rs : List ℕ) : Type 0 where
+  pub does : (d : Desk) → Stands cs ps us d → Done cs ps us d c cs' ps' us' rs
+  pub beyond : Beyond cs ps us cs' ps' us' (limits_of ps)
+
+-- and its answer stands in the first r bytes of out; the bytes after them are as they were
+pub record Served (cs ps us : List ℕ) (c : Call) (cs' ps' us' out out' : List ℕ) (r : ℕ) : Type 0 where
+  pub says : Answer
+  pub handled : Handled cs ps us c cs' ps' us' (answer_bytes says)
+  pub bytes : out' ≡ answer_bytes says ++ drop r out
+  pub long : r ≡ length (answer_bytes says)
 
 -- every word fits four bytes
 abbrev pub Fit : List ℕ → List ℕ → List ℕ → Type 0

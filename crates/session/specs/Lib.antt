@@ -3,3 +3,4 @@ pub mod Acts
 pub mod Range
 pub mod Contract
 pub mod Keeping
+pub mod Undoing

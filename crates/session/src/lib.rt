@@ -2,19 +2,22 @@
 // comes as bytes and writes the answer as bytes. What memory holds, and what each promises of it, is in specs/.
 #![tactic(auto)]
 
-ghost use Rattle.std.specs.Prelude.{◌≡◌, ◌+◌, ◌*◌, ◌<◌, ◌≤◌, min, true, false, [], ◌∷◌, ◌++◌, length, take, drop, replicate, Some, None, nat_le, slice_index};
-ghost use Rattle.model.specs.Paper.{new_cells};
+ghost use Rattle.std.specs.Prelude.{◌≡◌, ◌+◌, ◌*◌, ◌<◌, ◌≤◌, min, true, false, ◌∷◌, ◌++◌, length, take, drop, replicate, Some, None, nat_le, slice_index};
 ghost use Rattle.pieces.specs.Store.{Table, before};
-ghost use Rattle.session.specs.Acts.{Acted, Rowed, Said, Wrote, allows, row_of, with_cells};
-ghost use Rattle.model.specs.Calls.{count as counts, good_fields, put as puts, show as shows};
+ghost use Rattle.codec.specs.Bytes.{answer_bytes};
+ghost use Rattle.history.specs.Log.{Keeps};
+ghost use Rattle.session.specs.Acts.{Acted, Logs, Said, allows};
+ghost use Rattle.model.specs.Calls.{count as counts, find as finds, good_fields, put as puts, save as saves, show as shows};
 ghost use Rattle.codec.specs.Values.{meaning, told};
-ghost use Rattle.session.specs.Contract.{Called, Opening};
+ghost use Rattle.session.specs.Contract.{Called, Handled, Opening, Served};
 ghost use Rattle.session.specs.Keeping.{AnyChain, FromOpening, MainPromise};
-ghost use Rattle.session.specs.Range.{is_show};
-ghost use Rattle.session.specs.Memory.{Held, Sound, cells_words, paper_of, pieces_words, slots_of, tables, undo_words};
+ghost use Rattle.session.specs.Range.{is_long};
+ghost use Rattle.session.specs.Memory.{Held, Sound, cells_words, pieces_words, slots_of, tables, undo_words};
 
 mod deciding;
 mod range;
+mod undoing;
+mod writing;
 
 use codec::{Answer, Call};
 use deciding::Verdict;
@@ -62,7 +65,7 @@ pub fn words_for(limits: Limits) -> Sizes
     Sizes {
         cells: 4096 * (limits.cells as usize / 576 + 4),
         pieces: 10256 + 2 * limits.changes as usize,
-        undo: 0,
+        undo: 16 + 16 * limits.undos as usize,
     }
 }
 
@@ -95,6 +98,7 @@ pub fn open(
         &mut pieces[tables..],
         pieces::slots_for(limits.cells as usize),
     );
+    history::log::clear(undo, limits.undos);
     Ok(())
 }
 
@@ -125,7 +129,7 @@ pub fn call(
     ensures rest { drop result answer.new ≡ drop result answer.old }
 {
     match codec::read(bytes) {
-        Ok((call, letters)) => serve(cells, pieces, call, letters, answer),
+        Ok((call, letters)) => serve(cells, pieces, undo, call, letters, answer),
         Err(at) => codec::write(Answer::Refused(1, told_place(at)), answer),
     }
 }
@@ -145,13 +149,14 @@ fn told_place(at: usize) -> u32
 fn serve(
     cells: &mut [u32],
     pieces: &mut [u32],
+    undo: &mut [u32],
     call: Call,
     letters: &[u8],
     answer: &mut [u8],
 ) -> usize
-    requires held { Held cells.old pieces.old }
+    requires sound { Sound cells.old pieces.old undo.old }
     requires room { 262405 ≤ length answer.old }
-    ensures { Said cells.old pieces.old (meaning call letters.now) cells.new pieces.new answer.old answer.new result }
+    ensures { Served cells.old pieces.old undo.old (meaning call letters.now) cells.new pieces.new undo.new answer.old answer.new result }
 {
     if !range::within(call, letters) {
         return codec::write(Answer::Refused(2, 0), answer);
@@ -171,45 +176,52 @@ fn serve(
             };
             show(cells, pieces, rows, answer)
         }
+        Call::Save { from, count } => save(cells, pieces, from, count, answer),
         _ => {
-            let short = act(cells, pieces, call, letters);
+            let short = act(cells, pieces, undo, call, letters);
             codec::write(short, answer)
         }
     }
 }
 
-// Does a call in range whose answer is short, or refuses it. A call that this stage cannot do is refused by 2.
-fn act(cells: &mut [u32], pieces: &mut [u32], call: Call, letters: &[u8]) -> Answer
-    requires held { Held cells.old pieces.old }
+// Does a call in range whose answer is short, or refuses it.
+fn act(
+    cells: &mut [u32],
+    pieces: &mut [u32],
+    undo: &mut [u32],
+    call: Call,
+    letters: &[u8],
+) -> Answer
+    requires sound { Sound cells.old pieces.old undo.old }
     requires good { good_fields (meaning call letters.now) ≡ true }
-    requires short { is_show call ≡ false }
-    ensures { Acted cells.old pieces.old (meaning call letters.now) cells.new pieces.new (told result) }
+    requires short { is_long call ≡ false }
+    ensures { Handled cells.old pieces.old undo.old (meaning call letters.now) cells.new pieces.new undo.new (answer_bytes (told result)) }
 {
     match call {
         Call::Put {
             author,
             place,
             style,
-        } => put(cells, pieces, author, place, style, letters),
+        } => put(cells, pieces, undo, author, place, style, letters),
         Call::Strike {
             author,
             place,
             count,
-        } => deciding::strike(cells, pieces, author, place, count),
-        Call::Accept { change } => deciding::decide(cells, pieces, change, Verdict::Accepted),
-        Call::Reject { change } => deciding::decide(cells, pieces, change, Verdict::Rejected),
+        } => deciding::strike(cells, pieces, undo, author, place, count),
+        Call::Accept { change } => deciding::decide(cells, pieces, undo, change, Verdict::Accepted),
+        Call::Reject { change } => deciding::decide(cells, pieces, undo, change, Verdict::Rejected),
         Call::Style {
             place,
             count,
             style,
-        } => deciding::style(cells, pieces, place, count, style),
+        } => deciding::style(cells, pieces, undo, place, count, style),
         Call::Count { way } => count(cells, pieces, way),
         Call::Change { change } => deciding::ask(cells, pieces, change),
+        Call::Find { way, from } => find(cells, pieces, way, from, letters),
         Call::Show { .. } => unreachable(),
-        Call::Undo => Answer::Refused(2, 0),
-        Call::Redo => Answer::Refused(2, 0),
-        Call::Find { .. } => Answer::Refused(2, 0),
-        Call::Save { .. } => Answer::Refused(2, 0),
+        Call::Save { .. } => unreachable(),
+        Call::Undo => undoing::undo(cells, pieces, undo),
+        Call::Redo => undoing::redo(cells, pieces, undo),
     }
 }
 
@@ -217,14 +229,17 @@ fn act(cells: &mut [u32], pieces: &mut [u32], call: Call, letters: &[u8]) -> Ans
 fn put(
     cells: &mut [u32],
     pieces: &mut [u32],
+    undo: &mut [u32],
     author: u32,
     place: u32,
     style: u32,
     letters: &[u8],
 ) -> Answer
     requires held { Held cells.old pieces.old }
+    requires log { Keeps undo.old (slice_index pieces.old 2) }
     requires good { good_fields (puts author place style letters.now) ≡ true }
-    ensures { Acted cells.old pieces.old (puts author place style letters.now) cells.new pieces.new (told result) }
+    ensures logs { Logs cells.old pieces.old undo.old (puts author place style letters.now) undo.new }
+    ensures acted { Acted cells.old pieces.old (puts author place style letters.now) cells.new pieces.new (told result) }
 {
     let count = count_cells(pieces);
     let Some(at) = place_for(count, place) else {
@@ -233,8 +248,8 @@ fn put(
     let Some(number) = room(pieces, count + letters.len()) else {
         return Answer::Refused(9, 0);
     };
-    insert(cells, pieces, at, letters, style, number);
-    add_change(pieces, author);
+    recorder::put(undo, pieces[2], author, place, style, letters);
+    writing::write_put(cells, pieces, author, at, style, letters);
     Answer::Number(number)
 }
 
@@ -247,6 +262,42 @@ fn count(cells: &[u32], pieces: &[u32], way: u32) -> Answer
     let slots = pieces::slots_for(pieces[0] as usize);
     let from = HEAD + 2 * pieces[1] as usize;
     Answer::Number(layout::count(cells, &pieces[from..], slots, way) as u32)
+}
+
+// One more than the place in a way to look at which the letters first stand, from one on; or 0.
+fn find(cells: &[u32], pieces: &[u32], way: u32, from: u32, letters: &[u8]) -> Answer
+    requires held { Held cells.now pieces.now }
+    requires good { good_fields (finds way from letters.now) ≡ true }
+    ensures { Acted cells.now pieces.now (finds way from letters.now) cells.now pieces.now (told result) }
+{
+    let slots = pieces::slots_for(pieces[0] as usize);
+    let tables = HEAD + 2 * pieces[1] as usize;
+    Answer::Number(search::find(cells, &pieces[tables..], slots, way, from, letters))
+}
+
+// Numbers of the file, from one on: the whole answer is written, and its length is returned.
+fn save(cells: &[u32], pieces: &[u32], from: u32, count: u32, answer: &mut [u8]) -> usize
+    requires held { Held cells.now pieces.now }
+    requires good { good_fields (saves from count) ≡ true }
+    requires room { 262405 ≤ length answer.old }
+    ensures { Said cells.now pieces.now (saves from count) cells.now pieces.now answer.old answer.new result }
+{
+    let slots = pieces::slots_for(pieces[0] as usize);
+    let row = pieces[3] as usize;
+    let tables = HEAD + 2 * pieces[1] as usize;
+    match saving::save(
+        cells,
+        &pieces[tables..],
+        slots,
+        &pieces[HEAD..],
+        row,
+        from,
+        count,
+        answer,
+    ) {
+        Some(end) => end,
+        None => codec::write(Answer::Refused(8, 0), answer),
+    }
 }
 
 // Rows of a width in a way to look: the whole answer is written, and its length is returned.
@@ -306,47 +357,6 @@ fn room(pieces: &[u32], cells: usize) -> Option<u32>
     } else {
         None
     }
-}
-
-// Puts letters into the store, put in by change number `change`.
-fn insert(
-    cells: &mut [u32],
-    pieces: &mut [u32],
-    place: usize,
-    letters: &[u8],
-    style: u32,
-    change: u32,
-)
-    requires held { Held cells.old pieces.old }
-    requires place { place ≤ length (paper_of cells.old pieces.old).cells }
-    requires few { length letters.now ≤ 1024 }
-    requires fits { length (paper_of cells.old pieces.old).cells + length letters.now ≤ slice_index pieces.old 0 }
-    requires mark { change < 4294967295 }
-    ensures { Wrote cells.old pieces.old cells.new pieces.new (with_cells (paper_of cells.old pieces.old) (take place (paper_of cells.old pieces.old).cells ++ (new_cells letters.now style change ++ drop place (paper_of cells.old pieces.old).cells))) }
-{
-    let slots = pieces::slots_for(pieces[0] as usize);
-    let from = HEAD + 2 * pieces[1] as usize;
-    pieces::put(
-        cells,
-        &mut pieces[from..],
-        slots,
-        place,
-        letters,
-        style,
-        change,
-    );
-}
-
-// One change more, which is open.
-fn add_change(pieces: &mut [u32], author: u32)
-    requires room { slice_index pieces.old 3 < slice_index pieces.old 1 }
-    requires few { slice_index pieces.old 1 ≤ 65536 }
-    requires long { 16 + 2 * slice_index pieces.old 1 ≤ length pieces.old }
-    ensures { Rowed pieces.old pieces.new (row_of pieces.old ++ (record { author = author; became = 0 } ∷ [])) }
-{
-    let number = pieces[3];
-    changes::add(&mut pieces[HEAD..], number as usize, author);
-    pieces[3] = number + 1;
 }
 
 // In any chain of calls, with any bytes, the answers are those of the desk that memory stood for; after opening, of the empty desk.

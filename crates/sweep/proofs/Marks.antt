@@ -1,7 +1,7 @@
 -- How many cells have the mark of a change.
 use Rattle.std.proofs.Common.{◌≡◌, ℕ, suc, ◌+◌, ◌*◌, Bool, true, false, ◌||◌, eqb, List, [], ◌∷◌, ◌++◌, sym, refl, ap, ◌∙◌, add-zero, add_assoc, zero-add, arith}
 use Rattle.std.specs.List.{AllByRecursion}
-use Rattle.std.proofs.lemmas.Bool.{ne_eqb}
+use Rattle.std.proofs.lemmas.Bool.{eqb-false, ne_eqb}
 use Rattle.model.specs.Paper.{pick, Cell, touched}
 use Rattle.slots.specs.Cells.{cell_at, cells_at}
 use Rattle.slots.proofs.Words.{cells_more}
@@ -37,6 +37,19 @@ unfolding touched
 touched_lacks c [] all = refl
 touched_lacks c (x ∷ xs) all =
     rw (ne_eqb x.put_in (suc c) all.0.put_in, ne_eqb x.struck (suc c) all.0.struck) (ap (λ n. 0 + n) (touched_lacks c xs all.1))
+
+-- cells of which none has the mark
+none_in : (s t : Bool) (n : ℕ) → pick (s || t) 1 0 + n ≡ 0 → (s ≡ false) × (t ≡ false) × (n ≡ 0)
+none_in true t n e = absurd (omega arith)
+none_in false true n e = absurd (omega arith)
+none_in false false n e = (refl, refl, omega arith)
+
+pub untouched : (c : ℕ) (xs : List Cell) → touched xs c ≡ 0 → AllByRecursion (Lacks (suc c)) xs
+unfolding touched
+untouched c [] e = tt
+untouched c (x ∷ xs) e =
+    let n = none_in (eqb x.put_in (suc c)) (eqb x.struck (suc c)) (touched xs c) e in
+    (record { put_in = eqb-false _ _ n.0; struck = eqb-false _ _ n.1 }, untouched c xs n.2)
 
 -- the cells of piece k
 pub touched_here : (w p : List ℕ) (k c at u r : ℕ) → at ≡ number p k 0 → u ≡ used p k → r ≡ touched (cells_at w at u) c → r ≡ touched (piece w p k) c

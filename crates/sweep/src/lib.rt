@@ -308,15 +308,15 @@ fn may_have(p: &[u32], s: usize, k: usize, change: u32) -> bool
 }
 
 // Whether a sweep may change a cell of piece `k`. If not, it leaves the piece as it is.
-fn concerns(p: &[u32], s: usize, k: usize, action: Action) -> bool
-    requires order { Order p.now s }
+fn concerns(c: &[u32], p: &[u32], s: usize, k: usize, action: Action) -> bool
+    requires store { Store c.now p.now s }
     requires here { k < s }
-    ensures { result ≡ false → (c : List ℕ) → Store c p.now s → (cs : List Change) → swept action cs (piece c p.now k) ≡ piece c p.now k }
+    ensures { result ≡ false → (cs : List Change) → swept action cs (piece c.now p.now k) ≡ piece c.now p.now k }
 {
     match action {
         Action::Strike { .. } => true,
-        Action::Accept { change } => may_have(p, s, k, change),
-        Action::Reject { change } => may_have(p, s, k, change),
+        Action::Accept { change } => touched_piece(c, p, s, k, change) > 0,
+        Action::Reject { change } => touched_piece(c, p, s, k, change) > 0,
         Action::Style { .. } => true,
     }
 }
@@ -348,7 +348,7 @@ fn sweep_whole(c: &mut [u32], w: &mut [u32], at: Places, k: usize, action: Actio
     ensures head { take at.tables w.new ≡ take at.tables w.old }
 {
     let tables = at.tables;
-    if !concerns(&w[tables..], at.slots, k, action) {
+    if !concerns(c, &w[tables..], at.slots, k, action) {
         return;
     }
     let has = pieces::used(&w[tables..], k);
@@ -374,7 +374,7 @@ pub fn sweep_all(c: &mut [u32], w: &mut [u32], at: Places, action: Action)
 fn is_touched(cell: Cell, change: u32) -> bool
     ensures { result ≡ (nat_eq cell.put_in (suc change) || cell.struck == suc change) }
 {
-    is_mark(cell.put_in, change) || is_mark(cell.struck, change)
+    is_mark(cell.put_in, change) | is_mark(cell.struck, change)
 }
 
 // How many of the `n` cells from number `at` on have the mark of the change.

@@ -27,7 +27,7 @@ const CELLS_WORDS: usize = 28672;
 
 const PIECES_WORDS: usize = 10512;
 
-const UNDO_WORDS: usize = 1;
+const UNDO_WORDS: usize = 32784;
 
 const ANSWER_BYTES: usize = 262405;
 

@@ -1,18 +1,19 @@
 use Rattle.std.proofs.Common.{◌+◌, ◌-◌, ◌<◌, arith}
 use Rattle.slots.specs.Cells.{cells_at}
+use Rattle.pieces.specs.Store.{used as uses}
 use Rattle.pieces.proofs.Change.{changed_marked}
 use Rattle.pieces.proofs.Cuts.{used_from}
-use Rattle.pieces.proofs.Edit.{edited, inserted_twice, store_after, not_last, halves}
+use Rattle.pieces.proofs.Edit.{edited, inserted_twice, store_after, not_last, last_free, halves}
 use Rattle.pieces.proofs.insert_at.Goals as goal
 
-pub returns-then-used-n-le-CELLS : goal.returns-then-used-n-le-CELLS
-returns-then-used-n-le-CELLS c =
+pub returns-then-used-n : goal.returns-then-used-n
+returns-then-used-n c =
     edited c.args.c.now c.args.p.now c.insert_here.new.c c.insert_here.new.p c.args.s c.args.spot.piece c.args.spot.offset 0
     (cells_at c.args.new.now c.args.from c.args.n) c.requires.store c.requires.here (omega arith) c.insert_here.ensures.changed c.insert_here.ensures.sums c.insert_here.ensures.marks
 
 pub split-requires : goal.split-requires
 split-requires c =
-    let e = c.requires.spare (omega arith) in
+    let e = last_free c.args.p.now c.args.s (uses c.args.p.now c.args.spot.piece + c.args.n) c.limit.result c.limit.ensures.spare c.requires.spare (omega arith) in
     record { store = c.requires.store; here = not_last c.args.p.now c.args.s c.args.spot.piece c.requires.here e (omega arith); within = c.requires.within; spare = e }
 
 pub insert_here-requires-2 : goal.insert_here-requires-2
@@ -39,7 +40,8 @@ insert_here-requires-3 c =
     let small = c.requires.store.table.order.small k c.requires.here in
     let o = h.here in
     let w = c.requires.within in
-    let l : k + 1 < s = not_last c.args.p.now s k c.requires.here (c.requires.spare (omega arith)) (omega arith) in
+    let e = last_free c.args.p.now s (uses c.args.p.now k + c.args.n) c.limit.result c.limit.ensures.spare c.requires.spare (omega arith) in
+    let l : k + 1 < s = not_last c.args.p.now s k c.requires.here e (omega arith) in
     let st = store_after c.args.c.now c.args.p.now c.split.new.c c.split.new.p s c.requires.store h.same.frame h.same.order c.split.ensures.sums
     (h.same.marked c.requires.store.marked) in
     let u = used_from c.split.new.c c.split.new.p c.insert_here-2.new.c c.insert_here-2.new.p (k + 1) (k + 1) (g.others (k + 1) l (omega arith)) in
@@ -65,7 +67,8 @@ returns c =
     let m = c.min-first.result in
     let a = cells_at new from m in
     let b = cells_at new (from + m) (n - m) in
-    let l : k + 1 < s = not_last c.args.p.now s k c.requires.here (c.requires.spare (omega arith)) (omega arith) in
+    let e = last_free c.args.p.now s (uses c.args.p.now k + c.args.n) c.limit.result c.limit.ensures.spare c.requires.spare (omega arith) in
+    let l : k + 1 < s = not_last c.args.p.now s k c.requires.here e (omega arith) in
     rw (halves new from m n (omega arith)) at
     (inserted_twice c.args.c.now c.args.p.now c.split.new.c c.split.new.p c.insert_here-2.new.c c.insert_here-2.new.p
     c.insert_here-3.new.c c.insert_here-3.new.p s k o a b c.requires.store l c.requires.within c.split.ensures.cut

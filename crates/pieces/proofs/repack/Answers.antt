@@ -1,32 +1,22 @@
-use Rattle.std.proofs.Common.{◌≡◌, ◌-◌, ◌∙◌, arith}
-use Rattle.pieces.specs.Edits.{Packed}
-use Rattle.pieces.proofs.Packs.{packed_spare, packed_start, same_before, same_none}
-use Rattle.pieces.proofs.Cuts.{recounted, recounted_used, same_both}
+use Rattle.std.proofs.Common.{◌+◌, ◌-◌, ◌∙◌, arith}
+use Rattle.pieces.proofs.Edit.{same_beside, same_store}
 use Rattle.pieces.proofs.repack.Goals as goal
+
+pub remark_all-requires : goal.remark_all-requires
+remark_all-requires c = same_store c.args.c.now c.args.p.now c.pack.new.c c.pack.new.p c.args.s c.requires c.pack.ensures.same c.pack.ensures.sums
 
 pub returns : goal.returns
 returns c =
+    let d = c.pack.new.c in
+    let q = c.pack.new.p in
+    let r = c.remark_all.new.p in
     let s = c.args.s in
-    let inv = c.loop-j.invariant in
-    let o = inv.0.order in
-    let some = o.some in
-    let e : c.loop-j.j ≡ s = omega arith in
-    let packed : Packed c.loop-j.p c.loop-j.i s = rw e at inv.2 in
-    let b = same_before c.args.c.now c.args.p.now c.loop-j.c c.loop-j.p s inv.0 in
+    let e = c.remark_all.ensures in
+    let most = c.requires.table.order.most in
+    let some = c.requires.table.order.some in
+    let t = same_store c.args.c.now c.args.p.now d q s c.requires c.pack.ensures.same c.pack.ensures.sums in
     record {
-      same = same_both c.args.c.now c.args.p.now c.loop-j.c c.loop-j.p c.loop-j.c c.recount.new.p s inv.0
-          (recounted c.loop-j.c c.loop-j.p c.recount.new.p s o c.recount.ensures.same);
-      sums = c.recount.ensures.sums;
-      spare = λ l. recounted_used c.loop-j.c c.loop-j.p c.recount.new.p s o c.recount.ensures.same (s - 1) (omega arith)
-          ∙ packed_spare c.loop-j.p s c.loop-j.i some packed (omega arith) (omega arith);
+      same = same_beside c.args.c.now c.args.p.now d q r s c.pack.ensures.same t e.beside e.store;
+      sums = e.store.table.sums;
+      spare = λ l. e.beside.below (4096 + (s - 1)) (omega arith) ∙ c.pack.ensures.spare l;
     }
-
-pub loop-j-init : goal.loop-j-init
-loop-j-init c = (same_none c.args.c.now c.args.p.now c.args.s c.requires.table.order, omega arith, packed_start c.args.p.now)
-
-pub loop-j-preserved : goal.loop-j-preserved
-loop-j-preserved c = (
-  same_both c.args.c.now c.args.p.now c.loop-j.c c.loop-j.p c.settle-i.new.c c.settle-i.new.p c.args.s c.loop-j.invariant.0 c.settle-i.ensures.same,
-  omega (arith, c.settle-i.ensures.first),
-  c.settle-i.ensures.packed,
-)

@@ -1,33 +1,26 @@
 use Rattle.std.proofs.Common.{arith}
-use Rattle.pieces.proofs.Cuts.{rotated_order, rotated_next, rotated_here, cut}
+use Rattle.pieces.proofs.Edit.{cut_beside, same_store}
+use Rattle.pieces.proofs.Sets.{beside_both}
 use Rattle.pieces.proofs.split.Goals as goal
 
-pub shift-requires : goal.shift-requires
-shift-requires c =
-    let p = c.args.p.now in
-    let r = c.rotate-2.new.p in
-    let s = c.args.s in
-    let k = c.args.k in
-    let w = c.requires.store.table.order in
-    let w' = rotated_order p c.rotate.new.p r s k w c.requires.here c.rotate.ensures c.rotate-2.ensures in
-    let next = rotated_next p c.rotate.new.p r s k w c.requires.here c.rotate.ensures c.rotate-2.ensures c.requires.spare in
-    let here = rotated_here p c.rotate.new.p r s k w c.requires.here c.rotate.ensures c.rotate-2.ensures c.requires.spare in
-    let small = w'.small k (omega arith) in
+pub remark-requires : goal.remark-requires
+remark-requires c =
     record {
-      order = w';
-      room = c.requires.store.room;
-      target = c.requires.here;
-      source = omega arith;
-      two = omega arith;
-      within = omega (arith, c.used.ensures, c.requires.within);
-      fits = omega (arith, c.used.ensures);
+      store = same_store c.args.c.now c.args.p.now c.cut_at.new.c c.cut_at.new.p c.args.s c.requires.store c.cut_at.ensures.cut.same c.cut_at.ensures.sums;
+      here = omega (arith, c.requires.here);
     }
+
+pub remark-requires-2 : goal.remark-requires-2
+remark-requires-2 c = record { store = c.remark.ensures.store; here = c.requires.here }
 
 pub returns : goal.returns
 returns c =
-    record {
-      cut = cut c.args.c.now c.args.p.now c.rotate.new.p c.rotate-2.new.p c.shift.new.c c.shift.new.p c.recount.new.p
-          c.args.s c.args.k c.args.o _ c.requires.store.table.order c.requires.here c.requires.within c.requires.spare
-          c.rotate.ensures c.rotate-2.ensures (omega (arith, c.used.ensures)) c.shift.ensures c.recount.ensures.same;
-      sums = c.recount.ensures.sums;
-    }
+    let d = c.cut_at.new.c in
+    let q = c.cut_at.new.p in
+    let r = c.remark.new.p in
+    let v = c.remark-2.new.p in
+    let s = c.args.s in
+    let t = same_store c.args.c.now c.args.p.now d q s c.requires.store c.cut_at.ensures.cut.same c.cut_at.ensures.sums in
+    let u = c.remark-2.ensures.store in
+    let b = beside_both q r v c.remark.ensures.beside c.remark-2.ensures.beside in
+    record { cut = cut_beside c.args.c.now c.args.p.now d q v s c.args.k c.args.o c.requires.here c.cut_at.ensures.cut t b u; sums = u.table.sums }

@@ -1,27 +1,23 @@
 use Rattle.std.proofs.Common.{◌≡◌, min, ◌++◌, length, take, drop}
-use Rattle.model.specs.Calls.{answer, refused}
+use Rattle.model.specs.Calls.{refused}
 use Rattle.codec.specs.Bytes.{answer_bytes}
 use Rattle.codec.specs.Values.{meaning}
-use Rattle.session.specs.Acts.{desk_of}
-use Rattle.session.specs.Memory.{limits_of}
 use Rattle.session.proofs.Saying.{first_bytes, first_within}
 use Rattle.session.proofs.Serving.{called, not_called}
 use Rattle.session.proofs.call.Goals as goal
 
 pub returns-in-Ok : goal.returns-in-Ok
 returns-in-Ok c =
-    let cs = c.args.cells.now in
-    let ps = c.args.pieces.now in
-    let us = c.args.undo.now in
     let r = c.serve.result in
-    let m = meaning c.in-Ok.call c.in-Ok.letters.now in
-    let bs = answer_bytes (answer (limits_of ps) (desk_of cs ps) m) in
+    let bs = answer_bytes c.serve.ensures.says in
     let parts : (take r c.serve.new.answer ≡ bs) × (drop r c.serve.new.answer ≡ drop r c.args.answer.now) =
     first_bytes bs c.args.answer.now c.serve.new.answer r c.serve.ensures.bytes c.serve.ensures.long in
     record {
       called =
-          called cs ps us c.args.bytes.now c.serve.new.cells c.serve.new.pieces (take r c.serve.new.answer) m c.in-Ok.ensures.0 c.requires.sound.undo_long
-          c.serve.ensures.acted parts.0 (λ i. (c.type_inv.cells i).fits, λ i. (c.type_inv.pieces i).fits, λ i. (c.type_inv.undo i).fits);
+          rw parts.0
+          (called c.args.cells.now c.args.pieces.now c.args.undo.now c.args.bytes.now c.serve.new.cells c.serve.new.pieces c.serve.new.undo bs
+          (meaning c.in-Ok.call c.in-Ok.letters.now) c.in-Ok.ensures.0 c.requires.sound c.serve.ensures.handled
+          (λ i. (c.type_inv.cells i).fits, λ i. (c.type_inv.pieces i).fits, λ i. (c.type_inv.undo i).fits));
       within = first_within bs c.args.answer.now c.serve.new.answer r c.serve.ensures.bytes c.serve.ensures.long c.serve.auto.answer;
       rest = parts.1;
     }

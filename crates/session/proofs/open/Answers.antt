@@ -1,4 +1,4 @@
-use Rattle.std.proofs.Common.{◌≡◌, ◌+◌, ◌*◌, ◌≤◌, [], length, drop, refl, arith}
+use Rattle.std.proofs.Common.{◌≡◌, ◌+◌, ◌*◌, ◌≤◌, [], length, drop, arith}
 use Rattle.std.proofs.lemmas.List.{take_rest}
 use Rattle.pieces.specs.Store.{Store, cells_of, cleared_cells, cleared_words}
 use Rattle.session.specs.Memory.{slots_for, cells_words, pieces_words, undo_words}
@@ -30,8 +30,10 @@ returns c =
       record {
         cells = cells;
         pieces = pieces_are n m u ps begun c.clear.new.p c.begin.ensures clears;
-        undo = refl;
-        stands = stands n m u ps begun c.clear.new.p c.begin.ensures clears c.clear.new.c us small_n small-m small-u (omega arith) long-ps store empty;
+        undo = c.clear-2.ensures.words;
+        stands =
+            stands n m u ps begun c.clear.new.p c.begin.ensures clears c.clear.new.c c.clear-2.new.u small_n small-m small-u (omega arith) long-ps store empty
+            c.clear-2.ensures.log;
         fit = (λ i. (c.type_inv.cells i).fits, λ i. (c.type_inv.pieces i).fits, λ i. (c.type_inv.undo i).fits);
       },
     )

@@ -10,12 +10,12 @@ use Rattle.sweep.proofs.Sets.{past_tree, beside_piece}
 use Rattle.sweep.proofs.sweep_whole.Goals as goal
 
 pub concerns-requires : goal.concerns-requires
-concerns-requires c = simp take_rest record { order = c.requires.store.table.order; here = c.requires.here }
+concerns-requires c = simp take_rest record { store = c.requires.store; here = c.requires.here }
 
 pub returns-then-not-concerns : goal.returns-then-not-concerns
 returns-then-not-concerns c =
     let p = drop c.args.at.tables c.args.w.now in
-    let same = simp take_rest at c.concerns.ensures c.if-not-concerns.true c.args.c.now c.requires.store (changes_of (drop 16 c.args.w.now) c.args.at.row) in
+    let same = simp take_rest at c.concerns.ensures c.if-not-concerns.true (changes_of (drop 16 c.args.w.now) c.args.at.row) in
     record { frame = frame_none c.args.c.now p c.args.at.slots; swept = sym same; others = λ j l ne. refl; store = c.requires.store; head = refl }
 
 pub used-has-requires : goal.used-has-requires

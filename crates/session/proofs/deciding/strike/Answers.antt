@@ -1,10 +1,9 @@
-use Rattle.std.proofs.Common.{◌≡◌, ◌+◌, ◌<◌, ◌≤◌, true, false, leb, get_or, arith, leb-true}
+use Rattle.std.proofs.Common.{◌≡◌, ◌+◌, ◌*◌, ◌≤◌, true, false, leb, length, get_or, refl, arith, leb-true}
+use Rattle.model.specs.Calls.{number, rewritten, strikes}
 use Rattle.pieces.specs.Store.{before}
-use Rattle.sweep.specs.Sweep.{swept_run}
-use Rattle.sweep.specs.declared.Action.TheVariants.{Strike}
-use Rattle.session.specs.Acts.{Wrote, allows, row_of, with_cells}
+use Rattle.session.specs.Acts.{Wrote, allows}
 use Rattle.session.specs.Memory.{paper_of, slots_of, tables}
-use Rattle.session.proofs.Putting.{still}
+use Rattle.session.proofs.Logging.{Leaves, recorded}
 use Rattle.session.proofs.Striking.{allowed_more, cells_there, strike_done, strike_nowhere, strike_too_much}
 use Rattle.session.proofs.deciding.strike.Goals as goal
 
@@ -12,46 +11,57 @@ pub returns-in_default : goal.returns-in_default
 returns-in_default c =
     let ps = c.args.pieces.now in
     let h : leb (c.args.place + c.args.count) (before (tables ps) (slots_of ps)) ≡ false = rw c.count_cells-total.ensures at c.in_default.ensures in
-    strike_nowhere c.args.cells.now ps c.requires.held c.args.author c.args.place c.args.count c.requires.good h
+    let r = strike_nowhere c.args.cells.now ps c.requires.held c.args.undo.now c.args.author c.args.place c.args.count c.requires.good h in
+    record { logs = r.0; acted = r.1 }
 
 pub returns-in_default-room : goal.returns-in_default-room
 returns-in_default-room c =
     let ps = c.args.pieces.now in
     let h : leb (c.args.place + c.args.count) (before (tables ps) (slots_of ps)) ≡ true = rw c.count_cells-total.ensures at c.in-Some.ensures.1 in
     let k : allows ps (before (tables ps) (slots_of ps)) ≡ false = rw c.count_cells-total.ensures at c.in_default-room.ensures in
-    strike_too_much c.args.cells.now ps c.requires.held c.args.author c.args.place c.args.count c.requires.good h k
+    let r = strike_too_much c.args.cells.now ps c.requires.held c.args.undo.now c.args.author c.args.place c.args.count c.requires.good h k in
+    record { logs = r.0; acted = r.1 }
 
-pub sweep_run-requires : goal.sweep_run-requires
-sweep_run-requires c =
-    let cs = c.args.cells.now in
+pub strike-requires : goal.strike-requires
+strike-requires c =
     let ps = c.args.pieces.now in
     let inside : c.args.place + c.args.count ≤ c.count_cells-total.result = leb-true (c.args.place + c.args.count) c.count_cells-total.result c.in-Some.ensures.1 in
-    let all = cells_there cs ps c.requires.held in
-    let less : get_or ps 3 0 < get_or ps 1 0 = allowed_more ps c.count_cells-total.result c.in-Some-room.ensures.1 in
+    let within : c.args.place + c.args.count ≤ length (paper_of c.args.cells.now ps).cells = omega (arith, cells_there c.args.cells.now ps c.requires.held, c.count_cells-total.ensures) in
+    let row : c.places-store.result.row ≡ get_or ps 3 0 = c.places-store.ensures.row in
+    let from : c.places-store.result.tables ≡ 16 + 2 * get_or ps 1 0 = c.places-store.ensures.tables in
+    let slots : c.places-store.result.slots ≡ slots_of ps = c.places-store.ensures.slots in
+    rw (from, slots) record {
+      log = c.requires.log;
+      store = c.requires.held.store;
+      within = within;
+      row = omega (arith, c.requires.held.changes_fit);
+      long = omega (arith, c.requires.held.pieces_long);
+    }
+
+pub write_strike-requires : goal.write_strike-requires
+write_strike-requires c =
+    let ps = c.args.pieces.now in
+    let inside : c.args.place + c.args.count ≤ c.count_cells-total.result = leb-true (c.args.place + c.args.count) c.count_cells-total.result c.in-Some.ensures.1 in
+    let all = cells_there c.args.cells.now ps c.requires.held in
     record {
       held = c.requires.held;
       within = omega (arith, c.in-Some.ensures.0, c.count_cells-total.ensures);
-      mark = omega (arith, c.in-Some-room.ensures.0, c.requires.held.few_changes);
+      room = allowed_more ps c.count_cells-total.result c.in-Some-room.ensures.1;
     }
-
-pub add_change-requires : goal.add_change-requires
-add_change-requires c =
-    let cs = c.args.cells.now in
-    let ps = c.args.pieces.now in
-    let less : get_or ps 3 0 < get_or ps 1 0 = allowed_more ps c.count_cells-total.result c.in-Some-room.ensures.1 in
-    let same = still c.sweep_run.ensures in
-    record { room = omega (arith, same.0, same.1); few = c.sweep_run.ensures.held.few_changes; long = omega (arith, c.sweep_run.ensures.held.pieces_long) }
 
 pub returns : goal.returns
 returns c =
     let cs = c.args.cells.now in
     let ps = c.args.pieces.now in
-    let i = c.args.place in
-    let n = c.args.count in
-    let at : c.in-Some.at ≡ i = c.in-Some.ensures.0 in
-    let number : c.in-Some-room.number ≡ get_or ps 3 0 = c.in-Some-room.ensures.0 in
-    let h : leb (i + n) (before (tables ps) (slots_of ps)) ≡ true = rw c.count_cells-total.ensures at c.in-Some.ensures.1 in
+    let us = c.args.undo.now in
+    let call = strikes c.args.author c.args.place c.args.count in
+    let h : leb (c.args.place + c.args.count) (before (tables ps) (slots_of ps)) ≡ true = rw c.count_cells-total.ensures at c.in-Some.ensures.1 in
     let k : allows ps (before (tables ps) (slots_of ps)) ≡ true = rw c.count_cells-total.ensures at c.in-Some-room.ensures.1 in
-    let wrote : Wrote cs ps c.sweep_run.new.cells c.sweep_run.new.pieces (with_cells (paper_of cs ps) (swept_run (Strike c.args.author (get_or ps 3 0)) (row_of ps) (paper_of cs ps).cells i n)) =
-    rw (at, number) at c.sweep_run.ensures in
-    rw number (strike_done cs ps c.requires.held c.args.author i n c.requires.good c.sweep_run.new.cells c.sweep_run.new.pieces c.add_change.new.pieces h k wrote c.add_change.ensures)
+    let row : c.places-store.result.row ≡ get_or ps 3 0 = c.places-store.ensures.row in
+    let from : c.places-store.result.tables ≡ 16 + 2 * get_or ps 1 0 = c.places-store.ensures.tables in
+    let slots : c.places-store.result.slots ≡ slots_of ps = c.places-store.ensures.slots in
+    let note = recorded cs ps call c.strike.ensures.records (rw (row, from, slots) refl) c.strike.ensures.rest c.strike.auto.u in
+    let wrote : Wrote cs ps c.write_strike.new.cells c.write_strike.new.pieces (rewritten (paper_of cs ps) call) = rw c.in-Some.ensures.0 at c.write_strike.ensures in
+    let r : Leaves cs ps us call c.write_strike.new.cells c.write_strike.new.pieces c.strike.new.u (number c.in-Some-room.number) =
+    rw c.in-Some-room.ensures.0 (strike_done cs ps c.requires.held us c.args.author c.args.place c.args.count c.requires.good h k note wrote) in
+    record { logs = r.0; acted = r.1 }
