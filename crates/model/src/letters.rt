@@ -4,50 +4,36 @@ ghost use Rattle.model.specs.Promise.{FoundFirst, LettersKept, NotEarlier, NotFo
 ghost use Rattle.model.specs.Worked.{WorkedPapers};
 
 // Every letter stands on a row, in order, but for ends of paragraphs and spaces at which a row was broken.
-pub fn letters_kept() -> u8
+pub fn letters_kept()
     ensures { LettersKept }
-{
-    0
-}
+{}
 
 // No row is longer than the width.
-pub fn rows_fit() -> u8
+pub fn rows_fit()
     ensures { RowsFit }
-{
-    0
-}
+{}
 
 // No row could have gone to a later space.
-pub fn not_earlier() -> u8
+pub fn not_earlier()
     ensures { NotEarlier }
-{
-    0
-}
+{}
 
 // What is found stands there and nowhere earlier.
-pub fn found_first() -> u8
+pub fn found_first()
     ensures { FoundFirst }
-{
-    0
-}
+{}
 
 // What is not found stands nowhere.
-pub fn not_found() -> u8
+pub fn not_found()
     ensures { NotFound }
-{
-    0
-}
+{}
 
 // Each letter of a paper was put in by a call that was not turned away.
-pub fn nothing_from_nowhere() -> u8
+pub fn nothing_from_nowhere()
     ensures { NothingFromNowhere }
-{
-    0
-}
+{}
 
 // A paper of three people, as it is seen in each way to look after each one's change.
-pub fn worked_papers() -> u8
+pub fn worked_papers()
     ensures { WorkedPapers }
-{
-    0
-}
+{}

@@ -1,12 +1,19 @@
-// What a paper is on which several people write: the structs that the code passes around, and the laws of their meaning (specs/).
+// What a paper is on which several people write: the types that the code passes around, and the laws of their meaning (specs/).
 #![tactic(auto)]
+
+ghost use Rattle.std.specs.Prelude.{◌≡◌};
 
 pub mod changes;
 pub mod letters;
+mod verdict;
+mod way;
+
+pub use verdict::Verdict;
+pub use way::Way;
 
 // A letter with a style. `put_in` and `struck` name the open change that put it in or struck it out: 0 for none, else one more
 // than the change's number. These are the four numbers that stand for a cell in a paper's file.
-#[derive(Clone, Copy)]
+#[derive(Clone, Copy, Debug, PartialEq, Eq, Hash)]
 pub struct Cell {
     pub letter: u32,
     pub style: u32,
@@ -15,7 +22,7 @@ pub struct Cell {
 }
 
 // A change has an author, and what became of it: 0 open, 1 accepted, 2 rejected.
-#[derive(Clone, Copy)]
+#[derive(Clone, Copy, Debug, PartialEq, Eq, Hash)]
 pub struct Change {
     pub author: u32,
     pub became: u32,
