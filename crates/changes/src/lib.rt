@@ -1,12 +1,33 @@
 // The row of changes, two words for each: its author and what became of it.
 #![tactic(auto)]
 
-ghost use Rattle.std.specs.Prelude.{◌≡◌, ◌+◌, ◌*◌, ◌<◌, ◌≤◌, [], ◌∷◌, ◌++◌, length, slice_set};
+ghost use Rattle.std.specs.Prelude.{◌≡◌, ◌+◌, ◌*◌, ◌<◌, ◌≤◌, Some, None, [], ◌∷◌, ◌++◌, length, slice_set};
 ghost use Rattle.changes.specs.Row.{change_at, changes_of};
 ghost use Rattle.model.specs.Calls.{with_became};
 ghost use Rattle.model.specs.Values.{change_of};
 
 use model::Change;
+
+/// The first `len` changes whose words are lent.
+#[derive(Clone, Copy, Debug)]
+pub struct Row<'a> {
+    pub words: &'a [u32],
+    pub len: usize,
+    ghost fits: { 2 * len ≤ length words.now },
+}
+
+impl<'a> Row<'a> {
+    /// Change number `k`, if it is there.
+    pub fn get(&self, k: usize) -> Option<Change>
+        ensures { elim result [ Some x ↦ (k < self.now.len) × (change_of x ≡ change_at self.now.words.now k) | None ↦ self.now.len ≤ k ] }
+    {
+        if k < self.len {
+            Some(read(self.words, k))
+        } else {
+            None
+        }
+    }
+}
 
 // Change number k.
 pub fn read(words: &[u32], k: usize) -> Change

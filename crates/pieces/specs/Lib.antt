@@ -1,3 +1,4 @@
 pub mod Marks
 pub mod Store
 pub mod Edits
+pub mod Text

@@ -13,7 +13,10 @@ ghost use Rattle.model.specs.Paper.{new_cells};
 ghost use Rattle.slots.specs.Cells.{cells_at};
 ghost use Rattle.tree.specs.Tree.{Sums};
 
+mod text;
+
 use model::Cell;
+pub use text::{Text, TextMut};
 
 // How many cells a slot takes.
 const CELLS: usize = 1024;

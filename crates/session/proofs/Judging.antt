@@ -4,7 +4,7 @@ use Rattle.std.proofs.lemmas.List.{length-set}
 use Rattle.model.specs.Paper.{pick, Paper, Cell, Change, touched}
 use Rattle.model.specs.Calls.{change, number, two, refused, call_number, good_fields, good_call, became, turned_by, with_became, writes, rewritten, moved, fits, turned, told, place}
 use Rattle.changes.specs.Row.{change_at}
-use Rattle.changes.proofs.Row.{change_in, length_changes}
+use Rattle.changes.proofs.Steps.{change_in, length_changes}
 use Rattle.sweep.specs.Sweep.{swept}
 use Rattle.sweep.proofs.Laws.{one_meaning}
 use Rattle.session.specs.declared.deciding.Verdict.{Verdict}

@@ -4,7 +4,7 @@ use borrow.Author.Tests.{lt-leb}
 use Rattle.model.specs.Paper.{pick, Cell, seen, view}
 use Rattle.model.specs.Rows.{rows}
 use Rattle.model.specs.Calls.{count, show, number, lines, refused, call_number, good_fields, turned_by, writes, rewritten, moved, fits, told, place}
-use Rattle.changes.proofs.Row.{length_changes}
+use Rattle.changes.proofs.Steps.{length_changes}
 use Rattle.session.specs.Memory.{limits_of, paper_of, Held}
 use Rattle.session.specs.Acts.{desk_of, Acted}
 use Rattle.session.proofs.Acting.{turned_first, turned_not, refuses, looked}

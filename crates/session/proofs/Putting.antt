@@ -3,7 +3,7 @@ use Rattle.std.proofs.Common.{◌≡◌, ℕ, suc, ◌+◌, ◌<◌, ◌≤◌, 
 use Rattle.std.proofs.lemmas.List.{length-append}
 use Rattle.model.specs.Paper.{Paper, Cell, Change, new_cells}
 use Rattle.model.specs.Calls.{put, number, refused, call_number, good_fields, good_call, good_letters, Limits, turned_by, writes, rewritten, fits, turned, told, place}
-use Rattle.changes.proofs.Row.{length_changes}
+use Rattle.changes.proofs.Steps.{length_changes}
 use Rattle.pieces.specs.Store.{before}
 use Rattle.pieces.proofs.Texts.{length_text}
 use Rattle.session.specs.Memory.{limits_of, slots_of, tables, paper_of, Held}

@@ -9,7 +9,7 @@ use Rattle.sweep.specs.Sweep.{goes, changed, fate, swept, swept_run}
 use Rattle.sweep.proofs.Laws.{one_meaning}
 use Rattle.pieces.specs.Store.{before}
 use Rattle.pieces.proofs.Texts.{length_text}
-use Rattle.changes.proofs.Row.{length_changes}
+use Rattle.changes.proofs.Steps.{length_changes}
 use Rattle.session.specs.Memory.{limits_of, slots_of, tables, paper_of, Held}
 use Rattle.session.specs.Acts.{Wrote, desk_of, Acted, Rowed, allows, row_of, with_cells}
 use Rattle.session.proofs.Acting.{turned_first, turned_last, turned_not, refuses, wrote_it}

@@ -5,7 +5,7 @@ use Rattle.std.proofs.lemmas.List.{length-append, length-take-le, length-drop, d
 use Rattle.model.specs.Paper.{Cell, Change, Paper, new_cells}
 use Rattle.model.specs.Calls.{Limits}
 use Rattle.changes.specs.Row.{changes_of}
-use Rattle.changes.proofs.Row.{changes_same}
+use Rattle.changes.proofs.Steps.{changes_same}
 use Rattle.pieces.specs.Store.{Edited, Store, Frame, cells_of}
 use Rattle.session.specs.Memory.{slots_for, limits_of, tables, paper_of, Held}
 use Rattle.session.specs.Acts.{Wrote, Rowed, with_cells}

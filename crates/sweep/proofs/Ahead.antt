@@ -2,7 +2,7 @@
 use Rattle.std.proofs.Common.{◌≡◌, ℕ, ◌+◌, ◌*◌, ◌<◌, ◌≤◌, List, get_or, take, drop, sym, ap, ◌∙◌, arith}
 use Rattle.std.proofs.lemmas.List.{get_or-take, get_or-drop}
 use Rattle.changes.specs.Row.{changes_of}
-use Rattle.changes.proofs.Row.{changes_same}
+use Rattle.changes.proofs.Steps.{changes_same}
 
 pub row_kept : (v w : List ℕ) (t n : ℕ) → 16 + 2 * n ≤ t → take t v ≡ take t w → changes_of (drop 16 v) n ≡ changes_of (drop 16 w) n
 row_kept v w t n h e =

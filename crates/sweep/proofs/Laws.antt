@@ -4,7 +4,7 @@ use lib.Dec.{eqb-zero-suc, eqb-suc-suc}
 use Rattle.std.proofs.lemmas.List.{append_assoc, drop-drop, get_or_past}
 use Rattle.model.specs.Paper.{pick, Cell, Change, author_of, strike, accept, reject, styled}
 use Rattle.changes.specs.Row.{change_at, changes_of}
-use Rattle.changes.proofs.Row.{change_in, length_changes}
+use Rattle.changes.proofs.Steps.{change_in, length_changes}
 use Rattle.sweep.specs.declared.Action.{Action}
 use Rattle.sweep.specs.declared.Action.TheVariants.{Strike, Accept, Reject, Style}
 use Rattle.sweep.specs.Sweep.{goes, changed, fate, swept, swept_run, OneMeaning}

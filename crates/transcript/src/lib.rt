@@ -124,7 +124,7 @@ fn answer_call(
     ensures { CallDone cells.old pieces.old undo.old call.now out.old.items cells.new pieces.new undo.new out.new.items result }
 {
     // Each letter was put in by a call: so every answer can be shown.
-    let _law = model::letters::nothing_from_nowhere();
+    model::letters::nothing_from_nowhere();
     let long = session::call(cells, pieces, undo, call, answer);
     tell(heap, &answer[0..long], out)
 }

@@ -3,7 +3,7 @@
 use Rattle.std.proofs.Common.{◌≡◌, ℕ, zero, suc, ◌+◌, Bool, true, false, ◌&&◌, eqb, leb, List, [], ◌++◌, length, get_or, take, drop, sym, refl, ap, ◌∙◌, subst, arith}
 use Rattle.std.proofs.lemmas.List.{append-nil, drop_all, drop_at, take_at, get_or-drop, get_or_append_left}
 use Rattle.std.proofs.lemmas.Bool.{and_parts, leb-true, eqb-true, ne_eqb}
-use Rattle.changes.proofs.Row.{length_changes}
+use Rattle.changes.proofs.Steps.{length_changes}
 use Rattle.model.specs.Paper.{pick, Paper}
 use Rattle.model.specs.Calls.{Call, put, strikes, accepts, rejects, styles, undo, redo, show, find, count, change, save, Answer, Desk, Limits, call_number, good_call, turned_by, rewritten, writes, moved, fits, turned, after, told, answer}
 use Rattle.model.specs.Promise.{GoodLimits, readable, Memory, Keeper}

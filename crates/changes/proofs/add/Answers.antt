@@ -1,5 +1,5 @@
 use Rattle.std.proofs.Common.{rules}
-use Rattle.changes.proofs.Row.{added}
+use Rattle.changes.proofs.Steps.{added}
 use Rattle.changes.proofs.add.Goals as goal
 
 pub returns : goal.returns

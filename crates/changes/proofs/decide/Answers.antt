@@ -1,5 +1,5 @@
 use Rattle.std.proofs.Common.{rules}
-use Rattle.changes.proofs.Row.{decided}
+use Rattle.changes.proofs.Steps.{decided}
 use Rattle.changes.proofs.decide.Goals as goal
 
 pub returns : goal.returns

@@ -1,0 +1,162 @@
+// A text that is kept in pieces, as one value: lent to be read, or lent to be changed.
+ghost use Rattle.std.specs.Prelude.{◌≡◌, ◌+◌, ◌-◌, ◌*◌, ◌/◌, ◌<◌, ◌≤◌, false, ◌++◌, length, take, drop, slice_index_or, slice_set};
+ghost use Rattle.std.specs.List.{AllByRecursion};
+ghost use Rattle.std.proofs.Props.{props};
+ghost use Rattle.model.specs.Paper.{new_cells};
+ghost use Rattle.model.specs.Values.{cell_of};
+ghost use Rattle.slots.specs.Cells.{cells_at};
+ghost use Rattle.pieces.specs.Store.{Located, Store, before, no_cell, number, piece, slot, used as uses};
+ghost use Rattle.pieces.specs.Marks.{Lacks, has};
+
+use crate::Spot;
+use model::Cell;
+
+/// A text that is only read: two lent slices of words, and how many slots there are.
+#[derive(Clone, Copy, Debug)]
+pub struct Text<'a> {
+    pub cells: &'a [u32],
+    pub tables: &'a [u32],
+    pub slots: usize,
+    ghost store: { Store cells.now tables.now slots } by { Prim.hlevel props },
+}
+
+impl<'a> Text<'a> {
+    ghost use Rattle.pieces.specs.Text.{cells_in};
+
+    /// How many cells piece `k` has.
+    pub fn used(&self, k: usize) -> usize
+        requires { k < 2048 }
+        ensures { result ≡ uses self.now.tables.now k }
+    {
+        crate::used(self.tables, k)
+    }
+
+    /// The number of cell `j` of piece `k`.
+    pub fn number_of(&self, k: usize, j: usize) -> usize
+        requires here { k < self.now.slots }
+        requires within { j ≤ 1024 }
+        ensures { result ≡ number self.now.tables.now k j }
+    {
+        crate::number_of(self.tables, self.slots, k, j)
+    }
+
+    /// Cell `j` of piece `k`.
+    pub fn cell(&self, k: usize, j: usize) -> Cell
+        requires here { k < self.now.slots }
+        requires within { j < uses self.now.tables.now k }
+        ensures { cell_of result ≡ slice_index_or (cells_in self.now) (before self.now.tables.now k + j) no_cell }
+    {
+        crate::cell(self.cells, self.tables, self.slots, k, j)
+    }
+
+    /// How many cells there are.
+    pub fn count(&self) -> usize
+        ensures { result ≡ before self.now.tables.now self.now.slots }
+    {
+        crate::count(self.tables, self.slots)
+    }
+
+    /// Where cell number `place` stands.
+    pub fn locate(&self, place: usize) -> Spot
+        requires { place < before self.now.tables.now self.now.slots }
+        ensures { Located self.now.tables.now self.now.slots place result.piece result.offset }
+    {
+        crate::locate(self.tables, self.slots, place)
+    }
+
+    /// Whether piece `k` may have a cell with the mark. If not, it has none.
+    pub fn may_have(&self, k: usize, mark: u32) -> bool
+        requires here { k < self.now.slots }
+        requires some { 0 < mark }
+        ensures is { result ≡ has self.now.tables.now (slot self.now.tables.now k) mark }
+        ensures lacks { result ≡ false → AllByRecursion (Lacks mark) (piece self.now.cells.now self.now.tables.now k) }
+    {
+        crate::may_have(self.tables, self.slots, k, mark)
+    }
+}
+
+/// A text that is changed.
+#[derive(Drop)]
+pub struct TextMut<'a> {
+    pub cells: &'a mut [u32],
+    pub tables: &'a mut [u32],
+    pub slots: usize,
+    ghost store: { Store cells.now tables.now slots } by { Prim.hlevel props },
+}
+
+impl<'a> TextMut<'a> {
+    ghost use Rattle.pieces.specs.Text.{Rewrites, cells_of_mut};
+
+    pub fn text(&self) -> Text<'_>
+        ensures cells { result.cells.now ≡ self.now.cells.now }
+        ensures tables { result.tables.now ≡ self.now.tables.now }
+        ensures slots { result.slots ≡ self.now.slots }
+    {
+        Text {
+            cells: self.cells,
+            tables: self.tables,
+            slots: self.slots,
+        }
+    }
+
+    /// Writes the cell at a spot.
+    pub fn overwrite(&mut self, at: Spot, cell: Cell)
+        requires here { at.piece < self.old.slots }
+        requires within { at.offset < uses self.old.tables.now at.piece }
+        ensures { Rewrites self.old self.new (slice_set (cells_of_mut self.old) (before self.old.tables.now at.piece + at.offset) (cell_of cell)) }
+    {
+        crate::overwrite(
+            self.cells,
+            self.tables,
+            self.slots,
+            at.piece,
+            at.offset,
+            cell,
+        );
+    }
+
+    /// Puts letters into the text at `place`: new cells in one style, put in by one change.
+    pub fn put(&mut self, place: usize, letters: &[u8], style: u32, change: u32)
+        requires place { place ≤ length (cells_of_mut self.old) }
+        requires few { length letters.now ≤ 1024 }
+        requires fits { length (cells_of_mut self.old) + length letters.now ≤ 768 * (self.old.slots - 1) }
+        requires mark { change < 4294967295 }
+        ensures { Rewrites self.old self.new (take place (cells_of_mut self.old) ++ (new_cells letters.now style change ++ drop place (cells_of_mut self.old))) }
+    {
+        crate::put(
+            self.cells,
+            self.tables,
+            self.slots,
+            place,
+            letters,
+            style,
+            change,
+        );
+    }
+
+    /// Puts the cells whose words `new` has into the text at `place`.
+    pub fn insert(&mut self, place: usize, new: &[u32])
+        requires place { place ≤ length (cells_of_mut self.old) }
+        requires few { length new.now ≤ 4096 }
+        requires fits { length (cells_of_mut self.old) + length new.now / 4 ≤ 768 * (self.old.slots - 1) }
+        ensures { Rewrites self.old self.new (take place (cells_of_mut self.old) ++ (cells_at new.now 0 (length new.now / 4) ++ drop place (cells_of_mut self.old))) }
+    {
+        crate::insert(
+            self.cells,
+            self.tables,
+            self.slots,
+            place,
+            new,
+            0,
+            new.len() / 4,
+        );
+    }
+
+    /// Takes `n` cells out of the text, from `place` on.
+    pub fn remove(&mut self, place: usize, n: usize)
+        requires { place + n ≤ length (cells_of_mut self.old) }
+        ensures { Rewrites self.old self.new (take place (cells_of_mut self.old) ++ drop (place + n) (cells_of_mut self.old)) }
+    {
+        crate::remove(self.cells, self.tables, self.slots, place, n);
+    }
+}
