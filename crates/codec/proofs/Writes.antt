@@ -1,7 +1,7 @@
 -- One write after another, and how many bytes answers have.
-use Rattle.std.proofs.Common.{◌≡◌, ℕ, suc, ◌+◌, ◌*◌, ◌<◌, ◌≤◌, List, [], ◌∷◌, ◌++◌, length, get_or, take, drop, set, sym, refl, ap, ◌∙◌, append_assoc, append-nil, add-zero, zero-add, mul-suc, add-one, arith, length-append}
+use Rattle.std.proofs.Common.{◌≡◌, ℕ, suc, ◌+◌, ◌*◌, ◌/◌, ◌%◌, ◌^◌, ◌<◌, ◌≤◌, List, [], ◌∷◌, ◌++◌, length, get_or, take, drop, set, sym, refl, ap, ◌∙◌, append_assoc, append-nil, add-zero, zero-add, mul-suc, add-one, arith, length-append}
 use Rattle.std.proofs.lemmas.List.{length-take-le, length-drop, take_at, drop_at, drop-drop, set_split, take-append-drop}
-use Rattle.std.proofs.lemmas.List.Edits.{sets, sets-eq}
+use borrow.Rule.Slice.PartMut.{put_mid}
 use Rattle.model.specs.Paper.{Cell}
 use Rattle.codec.specs.Bytes.{word_bytes, words_bytes, cells_bytes, rows_bytes}
 use Rattle.codec.specs.Over.{over}
@@ -63,9 +63,17 @@ pub set_over : (out : List ℕ) (at b : ℕ) → at < length out → set out at 
 unfolding over
 set_over out at b h = simp (set_split out at b h, add-one)
 
-pub sets_over : (out : List ℕ) (at : ℕ) (bs : List ℕ) → at + length bs ≤ length out → sets out at bs ≡ over out at bs
+-- what a part of the lent bytes holds now is written over them
+pub lent_over : (out : List ℕ) (at k : ℕ) (bs : List ℕ) → k ≡ length bs → put_mid at k out bs ≡ over out at bs
 unfolding over
-sets_over out at bs h = let s = sets-eq bs out at h in let a = append_assoc (take at out) bs (drop (at + length bs) out) in cc
+lent_over out at k bs e = let d = drop-drop k at out in rw (e, ← drop-drop (length bs) at out) refl
+
+-- the bytes of a number that the library makes
+pub word_is : (n : ℕ) → n < 2 ^ 32 → n % 256 ∷ (n / 256 % 256 ∷ (n / 65536 % 256 ∷ (n / 16777216 % 256 ∷ []))) ≡ word_bytes n
+unfolding word_bytes
+word_is n h =
+    let e : n / 16777216 % 256 ≡ n / 16777216 = omega arith in
+    ap (λ z. n % 256 ∷ (n / 256 % 256 ∷ (n / 65536 % 256 ∷ (z ∷ [])))) e
 
 -- how long the bytes are
 pub length_words_bytes : (ns : List ℕ) → length (words_bytes ns) ≡ 4 * length ns
