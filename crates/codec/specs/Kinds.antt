@@ -1,5 +1,7 @@
 -- The first byte of each kind of call, and of each form of answer.
 use Rattle.std.specs.Prelude.{◌≡◌, ℕ, ◌≤◌, Result, MatchResult}
+use Rattle.codec.specs.declared.form.Form.{Form}
+use Rattle.codec.specs.declared.form.Form.TheVariants as form
 use Rattle.codec.specs.declared.kind.Kind.{Kind}
 use Rattle.codec.specs.declared.kind.Kind.TheVariants as kind
 use Rattle.codec.specs.declared.kind.UnknownKind.{UnknownKind}
@@ -21,3 +23,10 @@ kind_number kind.Save = 11
 -- the kind that begins with this byte, and no kind where the byte is past them all
 abbrev pub NumbersKind : ℕ → Result Kind UnknownKind → Type 0
 NumbersKind n r = MatchResult r (λ kind. kind_number kind ≡ n) (λ e. (e.0 ≡ n) × (12 ≤ n))
+
+abbrev pub form_number : Form → ℕ
+form_number form.Refused = 0
+form_number form.Number = 1
+form_number form.Two = 2
+form_number form.Rows = 3
+form_number form.Numbers = 4

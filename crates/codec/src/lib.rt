@@ -5,13 +5,16 @@
 ghost use Rattle.std.specs.Prelude.{◌≡◌, ℕ, ◌+◌, ◌<◌, ◌≤◌, List, [], ◌∷◌, ◌++◌, length, drop, Ok, Err, slice_index};
 ghost use Rattle.model.specs.Values.{cell_of};
 ghost use Rattle.codec.specs.Bytes.{word_bytes, words_bytes, cells_bytes, answer_bytes};
+ghost use Rattle.codec.specs.Kinds.{form_number};
 ghost use Rattle.codec.specs.Reading.{reading, call_is, ceases, word_at, head_length, letter_count, call_of};
 ghost use Rattle.codec.specs.Values.{meaning, told};
 ghost use Rattle.codec.specs.Over.{over};
 ghost use Rattle.codec.specs.Laws.{ReadableIs, ReadsBack, ReadsOnly, OneAnswer};
 
+mod form;
 mod kind;
 
+use form::Form;
 use kind::Kind;
 
 // The numbers of a call. The letters of Put and Find are not in it: they stand beside it, where they came.
@@ -108,13 +111,13 @@ pub fn number(out: &mut [u8], at: usize, n: u32) -> usize
     at + 4
 }
 
-// Writes a byte that says which form of answer it is, and a number.
-fn form(out: &mut [u8], at: usize, which: u8, n: u32) -> usize
+// Begins an answer: its form, and its first number.
+fn begin(out: &mut [u8], at: usize, form: Form, n: u32) -> usize
     requires { at + 5 ≤ length out.old }
-    ensures bytes { out.new ≡ over out.old at (which ∷ word_bytes n) }
+    ensures bytes { out.new ≡ over out.old at (form_number form ∷ word_bytes n) }
     ensures next { result ≡ at + 5 }
 {
-    out[at] = which;
+    out[at] = u8::from(form);
     number(out, at + 1, n)
 }
 
@@ -124,7 +127,7 @@ pub fn begin_rows(out: &mut [u8], at: usize, count: u32) -> usize
     ensures bytes { out.new ≡ over out.old at (3 ∷ word_bytes count) }
     ensures next { result ≡ at + 5 }
 {
-    form(out, at, 3, count)
+    begin(out, at, Form::Rows, count)
 }
 
 // Begins an answer of a row of numbers: how many there are.
@@ -133,7 +136,7 @@ pub fn begin_numbers(out: &mut [u8], at: usize, count: u32) -> usize
     ensures bytes { out.new ≡ over out.old at (4 ∷ word_bytes count) }
     ensures next { result ≡ at + 5 }
 {
-    form(out, at, 4, count)
+    begin(out, at, Form::Numbers, count)
 }
 
 // Writes a cell of a row.
@@ -149,12 +152,12 @@ pub fn cell(out: &mut [u8], at: usize, x: model::Cell) -> usize
 }
 
 // Writes an answer of two numbers.
-fn pair(out: &mut [u8], which: u8, m: u32, n: u32) -> usize
+fn pair(out: &mut [u8], form: Form, m: u32, n: u32) -> usize
     requires { 9 ≤ length out.old }
-    ensures bytes { out.new ≡ over out.old 0 (which ∷ words_bytes (m ∷ (n ∷ []))) }
+    ensures bytes { out.new ≡ over out.old 0 (form_number form ∷ words_bytes (m ∷ (n ∷ []))) }
     ensures next { result ≡ 9 }
 {
-    let at = form(out, 0, which, m);
+    let at = begin(out, 0, form, m);
     number(out, at, n)
 }
 
@@ -165,9 +168,9 @@ pub fn write(answer: Answer, out: &mut [u8]) -> usize
     ensures long { result ≡ length (answer_bytes (told answer)) }
 {
     match answer {
-        Answer::Refused(number, place) => pair(out, 0, number, place),
-        Answer::Number(n) => form(out, 0, 1, n),
-        Answer::Two(m, n) => pair(out, 2, m, n),
+        Answer::Refused(number, place) => pair(out, Form::Refused, number, place),
+        Answer::Number(n) => begin(out, 0, Form::Number, n),
+        Answer::Two(m, n) => pair(out, Form::Two, m, n),
     }
 }
 
