@@ -162,6 +162,7 @@ fn pair(out: &mut [u8], form: Form, m: u32, n: u32) -> usize
 }
 
 // Writes an answer of up to two numbers, and says how many bytes it has.
+#[tactic(auto, using(crate::proofs::Writes::over_start), unfolding(crate::specs::Bytes::answer_bytes, crate::specs::Bytes::words_bytes, crate::specs::Bytes::word_bytes))]
 pub fn write(answer: Answer, out: &mut [u8]) -> usize
     requires { 9 ≤ length out.old }
     ensures bytes { out.new ≡ answer_bytes (told answer) ++ drop result out.old }
