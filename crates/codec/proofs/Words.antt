@@ -1,6 +1,5 @@
 -- A number and its four bytes.
 use Rattle.std.proofs.Common.{◌≡◌, ℕ, zero, suc, ◌+◌, ◌*◌, ◌/◌, ◌%◌, ◌<◌, ◌≤◌, true, ltb, List, [], ◌∷◌, ◌++◌, length, get_or, drop, append_assoc, add-zero, arith}
-use native.Mathlib.Nat.{div-div-eq-div-mul}
 use Rattle.std.proofs.lemmas.List.{drop_more}
 use Rattle.std.proofs.lemmas.Bool.{ltb-true, and_parts}
 use Rattle.model.specs.Promise.{all_below}
@@ -9,7 +8,7 @@ use Rattle.codec.specs.Reading.{word_at}
 
 -- the bytes of a number make the number, however large
 pub word_back : (n : ℕ) → n % 256 + (256 * (n / 256 % 256) + (65536 * (n / 65536 % 256) + 16777216 * (n / 16777216))) ≡ n
-word_back n = omega (arith, div-div-eq-div-mul n 256 256, div-div-eq-div-mul n 65536 256)
+word_back n = omega arith
 
 -- and four bytes are those of the number that they make
 pub bytes_back : (a b c d : ℕ) → a < 256 → b < 256 → c < 256 → word_bytes (a + (256 * b + (65536 * c + 16777216 * d))) ≡ a ∷ (b ∷ (c ∷ (d ∷ [])))

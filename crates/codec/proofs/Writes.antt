@@ -1,6 +1,6 @@
 -- One write after another, and how many bytes answers have.
 use Rattle.std.proofs.Common.{◌≡◌, ℕ, suc, ◌+◌, ◌*◌, ◌/◌, ◌%◌, ◌^◌, ◌<◌, ◌≤◌, List, [], ◌∷◌, ◌++◌, length, get_or, take, drop, set, sym, refl, ap, ◌∙◌, append_assoc, append-nil, add-zero, zero-add, mul-suc, add-one, arith, length-append}
-use Rattle.std.proofs.lemmas.List.{length-take-le, length-drop, take_at, drop_at, drop-drop, set_split, take-append-drop}
+use Rattle.std.proofs.lemmas.List.{length-take-le, take_at, drop_at, drop-drop, set_split, take-append-drop}
 use borrow.Rule.Slice.PartMut.{put_mid}
 use Rattle.model.specs.Paper.{Cell}
 use Rattle.codec.specs.Bytes.{word_bytes, words_bytes, cells_bytes, rows_bytes}

@@ -2,11 +2,11 @@
 // numbers is written at once; rows and rows of numbers are written piece by piece, each piece at a place of the lent bytes.
 #![tactic(auto)]
 
-ghost use Rattle.std.specs.Prelude.{◌≡◌, ℕ, ◌+◌, ◌<◌, ◌≤◌, List, [], ◌∷◌, ◌++◌, length, drop, Ok, Err, slice_index};
+ghost use Rattle.std.specs.Prelude.{◌≡◌, ◌+◌, ◌<◌, ◌≤◌, [], ◌∷◌, ◌++◌, length, drop, Ok, Err, slice_index};
 ghost use Rattle.model.specs.Values.{cell_of};
 ghost use Rattle.codec.specs.Bytes.{word_bytes, words_bytes, cells_bytes, answer_bytes};
 ghost use Rattle.codec.specs.Kinds.{form_number};
-ghost use Rattle.codec.specs.Reading.{reading, call_is, ceases, word_at, head_length, letter_count, call_of};
+ghost use Rattle.codec.specs.Reading.{reading, call_is, ceases, head_length, letter_count};
 ghost use Rattle.codec.specs.Values.{meaning, told};
 ghost use Rattle.codec.specs.Over.{over};
 ghost use Rattle.codec.specs.Laws.{ReadableIs, ReadsBack, ReadsOnly, OneAnswer};
@@ -17,7 +17,8 @@ mod kind;
 use form::Form;
 use kind::Kind;
 
-// The numbers of a call. The letters of Put and Find are not in it: they stand beside it, where they came.
+// The numbers of a call. The letters of Put and Find are not in it: they stand beside it, where they came. A way to look is a number here,
+// since any number can come: one that names no way is refused by whoever has the paper.
 #[derive(Clone, Copy, Debug, PartialEq, Eq, Hash)]
 pub enum Call {
     Put {
@@ -102,6 +103,7 @@ pub fn read(bytes: &[u8]) -> Result<(Call, &[u8]), usize>
 }
 
 // Writes a number at a place: one of a row of numbers, or how many cells a row has. The answer is the place after it, here and below.
+// The bytes and the place are two parameters: the bytes are lent memory that callers fill piece by piece, in loops whose state is the place.
 pub fn number(out: &mut [u8], at: usize, n: u32) -> usize
     requires { at + 4 ≤ length out.old }
     ensures bytes { out.new ≡ over out.old at (word_bytes n) }

@@ -1,5 +1,5 @@
 -- The library's four bytes, at their place.
-use Rattle.std.proofs.Common.{◌≡◌, ◌^◌, ◌<◌, ◌+◌, ◌-◌, length, ◌∙◌, arith}
+use Rattle.std.proofs.Common.{◌≡◌, ◌^◌, ◌<◌, ◌+◌, ◌-◌, ◌∙◌, arith}
 use Rattle.codec.specs.Bytes.{word_bytes}
 use Rattle.codec.proofs.Writes.{lent_over, word_is}
 use Rattle.codec.proofs.number.Goals as goal
