@@ -6,7 +6,7 @@ ghost use Rattle.std.specs.Prelude.{◌≡◌, ◌+◌, ◌<◌, ◌≤◌, [], 
 ghost use Rattle.model.specs.Values.{cell_of};
 ghost use Rattle.codec.specs.Bytes.{word_bytes, words_bytes, cells_bytes, answer_bytes};
 ghost use Rattle.codec.specs.Kinds.{form_number};
-ghost use Rattle.codec.specs.Reading.{reading, call_is, ceases, head_length, letter_count};
+ghost use Rattle.codec.specs.Reading.{reading, call_is, ceases, head_length};
 ghost use Rattle.codec.specs.Values.{meaning, told};
 ghost use Rattle.codec.specs.Over.{over};
 ghost use Rattle.codec.specs.Laws.{ReadableIs, ReadsBack, ReadsOnly, OneAnswer};
