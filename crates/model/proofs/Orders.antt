@@ -6,15 +6,11 @@ use Rattle.model.specs.Paper.{pick, Cell, Change, Paper, accept, reject}
 use Rattle.model.specs.Calls.{accepts, rejects, Desk, Limits, call_number, good_fields, became, turned_by, with_became, rewritten, writes, fits, after, ran}
 use Rattle.model.specs.Promise.{decided, AnyOrder}
 use Rattle.model.specs.Orders.{Decision, call_of, calls_of, all_done, all_rewritten, decides, distinct, Reordered, same, skip, swap, trans, AnyListOrder}
-use Rattle.model.proofs.Picks.{pick_true, pick_false}
+use Rattle.model.proofs.Picks.{pick_true, pick_false, pick_both}
 use Rattle.model.proofs.Deciding.{any_order}
 
 eqb_swap : (a b : ℕ) → eqb a b ≡ eqb b a
-eqb_swap a b = go (eqb a b) refl
-  where
-    go : (t : Bool) → eqb a b ≡ t → eqb a b ≡ eqb b a
-    go true e = e ∙ sym (eq-eqb b a (sym (eqb-true a b e)))
-    go false e = e ∙ sym (ne_eqb b a (λ k. eqb-false a b e (sym k)))
+eqb_swap a b = grind arith
 
 -- another order has the same changes, and they are distinct if they were
 decides_same : {ds es : List Decision} → Reordered ds es → (c : ℕ) → decides ds c ≡ decides es c
@@ -24,10 +20,7 @@ decides_same (skip {d} r) c = ap (λ t. eqb d.change c || t) (decides_same r c)
 decides_same (swap {d} {e} {ds}) c = go (eqb d.change c) (eqb e.change c) (decides ds c)
   where
     go : (s t u : Bool) → (s || (t || u)) ≡ (t || (s || u))
-    go true true u = refl
-    go true false u = refl
-    go false true u = refl
-    go false false u = refl
+    go s t u = grind arith
 decides_same (trans r q) c = decides_same r c ∙ decides_same q c
 
 distinct_same : {ds es : List Decision} → Reordered ds es → distinct ds ≡ distinct es
@@ -151,11 +144,7 @@ fits_on l p d f =
 
 fits_kept : (l : Limits) (p : Paper) (d : Decision) → fits l p ≡ true → fits l (on_desk l p d) ≡ true
 unfolding on_desk
-fits_kept l p d f = go (made l p d)
-  where
-    go : (t : Bool) → fits l (pick t (on_paper p d) p) ≡ true
-    go true = fits_on l p d f
-    go false = f
+fits_kept l p d f = pick_both (λ q. fits l q ≡ true) (made l p d) (on_paper p d) p (fits_on l p d f) f
 
 -- a decision on another change changes nothing of whether this one is made
 made_still : (l : Limits) (p : Paper) (d e : Decision) → d.change ≢ e.change → made l (on_desk l p d) e ≡ made l p e
