@@ -35,20 +35,10 @@ decided_none false c = refl
 
 -- clearing the mark of one change leaves the marks of another
 other_mark : (m c d : ℕ) → c ≢ d → eqb (cleared m c) (suc d) ≡ eqb m (suc d)
-other_mark m c d ne = go (eqb m (suc c)) refl
-  where
-    go : (t : Bool) → eqb m (suc c) ≡ t → eqb (cleared m c) (suc d) ≡ eqb m (suc d)
-    go true e =
-        let n : eqb m (suc d) ≡ false = ne_eqb m (suc d) (λ k. let h = eqb-true m (suc c) e in omega arith) in
-        let z : eqb 0 (suc d) ≡ false = ne_eqb 0 (suc d) (λ k. omega arith) in
-        ap (λ v. eqb v (suc d)) (pick_true (eqb m (suc c)) 0 m e) ∙ (z ∙ sym n)
-    go false e = ap (λ v. eqb v (suc d)) (pick_false (eqb m (suc c)) 0 m e)
+other_mark m c d ne = grind arith
 
 two_picks : (s t : Bool) (m : ℕ) → pick t 0 (pick s 0 m) ≡ pick s 0 (pick t 0 m)
-two_picks true true m = refl
-two_picks true false m = refl
-two_picks false true m = refl
-two_picks false false m = refl
+two_picks s t m = grind arith
 
 cleared_both : (m c d : ℕ) → c ≢ d → cleared (cleared m c) d ≡ cleared (cleared m d) c
 cleared_both m c d ne =

@@ -12,7 +12,7 @@ Found : List Cell → List ℕ → ℕ → ℕ → ℕ → Type 0
 Found xs ls from i k = (from ≤ i + k) × (begins (drop k xs) ls ≡ true) × ((j : ℕ) → from ≤ i + j → j < k → begins (drop j xs) ls ≡ false)
 
 fails : (from i : ℕ) (b : Bool) → (leb from i && b) ≡ false → from ≤ i → b ≡ false
-fails from i b e h = rw (le-leb from i h) at e
+fails from i b e h = grind arith
 
 here : (xs : List Cell) (ls : List ℕ) (from i s : ℕ) → (leb from i && begins xs ls) ≡ true → suc i ≡ suc s → (k : ℕ) × (s ≡ i + k) × Found xs ls from i k
 unfolding Found

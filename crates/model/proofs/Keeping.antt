@@ -36,8 +36,8 @@ new_unseen (l ∷ ls) s c xs =
 -- only what was put in goes at once when it is struck out
 own_put_in : (cs : List Change) (m a : ℕ) → eqb (author_of cs m) (suc a) ≡ true → eqb m 0 ≡ false
 unfolding author_of
-own_put_in cs zero a e = let h = eqb-true 0 (suc a) e in ne_eqb 0 0 (λ z. omega arith)
-own_put_in cs (suc m) a e = ne_eqb (suc m) 0 (omega arith)
+own_put_in cs zero a e = grind arith
+own_put_in cs (suc m) a e = grind arith
 
 strike_seen : (xs : List Cell) (n : ℕ) (cs : List Change) (a c : ℕ) → seen_letters 2 (strike xs n cs a c) ≡ seen_letters 2 xs
 unfolding strike seen

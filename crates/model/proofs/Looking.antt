@@ -49,7 +49,7 @@ seen_or_gone k true x y xs ys g s l e = e ∙ sym (unseen_first k x xs (g refl))
 seen_or_gone k false x y xs ys g s l e = seen_alike k x y xs ys s l e
 
 marked : (m c : ℕ) → eqb m (suc c) ≡ true → eqb m 0 ≡ false
-marked m c e = let h = eqb-true m (suc c) e in ne_eqb m 0 (omega arith)
+marked m c e = grind arith
 
 -- what goes was not seen, what is left is seen as before
 pub decided_seen : (a : Bool) (xs : List Cell) (c : ℕ) → seen_letters (way a) (decided a xs c) ≡ seen_letters (way a) xs

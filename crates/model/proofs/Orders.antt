@@ -32,21 +32,12 @@ distinct_same (swap {d} {e} {ds}) =
     ∙ go (eqb d.change e.change) (decides ds d.change) (decides ds e.change) (distinct ds)
   where
     go : (b s t u : Bool) → (not (b || s) && (not t && u)) ≡ (not (b || t) && (not s && u))
-    go true true true u = refl
-    go true true false u = refl
-    go true false true u = refl
-    go true false false u = refl
-    go false true true u = refl
-    go false true false u = refl
-    go false false true u = refl
-    go false false false u = refl
+    go b s t u = grind arith
 distinct_same (trans r q) = distinct_same r ∙ distinct_same q
 
 first_two : (d e : Decision) (ds : List Decision) → distinct (d ∷ (e ∷ ds)) ≡ true → d.change ≢ e.change
 unfolding distinct decides
-first_two d e ds h k =
-    let a = (and_parts _ _ h).0 in
-    eqb-false e.change d.change (or_parts _ _ (not-true _ a)).0 (sym k)
+first_two d e ds h k = grind arith
 
 -- decisions one after the other, of which a step says what one does
 abbrev run : {S : Type 0} → (S → Decision → S) → List Decision → S → S
@@ -184,11 +175,7 @@ desks_commute l p d e f ne = go (made l p d) (made l p e) refl refl
 -- the checks of a call that decides, in their order: g it can be done, i the change is there, o it is open, f the paper after it fits
 all_checks : (g i o f : Bool) (x y : Desk) → f ≡ true →
     (pick (eqb (pick (g && true) (pick (eqb (pick i (pick o 0 6) 5) 0) (pick f 0 9) (pick i (pick o 0 6) 5)) 2) 0) x y).now ≡ pick (g && (i && o)) x.now y.now
-all_checks g i o false x y h = let z : ◌≡◌ {A = ℕ} 0 1 = cc in absurd (omega arith)
-all_checks true true true true x y h = refl
-all_checks true true false true x y h = refl
-all_checks true false o true x y h = refl
-all_checks false i o true x y h = refl
+all_checks g i o f x y h = grind arith
 
 after_is : (l : Limits) (b : Desk) (d : Decision) → fits l b.now ≡ true → (after l b (call_of d)).now ≡ on_desk l b.now d
 unfolding on_desk on_paper on_cells decided rewritten writes call_number good_fields turned_by

@@ -40,10 +40,7 @@ reject_unmarked (x ∷ xs) c h =
 
 -- the mark of change number c goes again from what it struck first, and only from that
 first_strike : (m c : ℕ) → m ≤ c → pick (eqb (pick (eqb m 0) (suc c) m) (suc c)) 0 (pick (eqb m 0) (suc c) m) ≡ m
-first_strike zero c h = pick_true _ _ _ (eq-eqb (suc c) (suc c) refl)
-first_strike (suc m) c h =
-    let e : pick (eqb (suc m) 0) (suc c) (suc m) ≡ suc m = pick_false _ _ _ (ne_eqb (suc m) 0 (omega arith)) in
-    ap (λ v. pick (eqb v (suc c)) 0 v) e ∙ pick_false _ _ _ (ne_eqb (suc m) (suc c) (omega arith))
+first_strike m c h = grind arith
 
 strike_reject : (xs : List Cell) (n : ℕ) (cs : List Change) (a c : ℕ) → Marks (λ m. m ≤ c) xs → none_by (take n xs) cs a ≡ true → reject (strike xs n cs a c) c ≡ xs
 unfolding strike none_by reject
