@@ -25,17 +25,8 @@ unseen_first k x xs e = ap letters (pick_false (seen k x) _ _ e)
 -- a cell in place of another of which the same is seen
 pub seen_alike : (k : ℕ) (x y : Cell) (xs ys : List Cell) → seen k y ≡ seen k x → y.letter ≡ x.letter → seen_letters k ys ≡ seen_letters k xs →
     seen_letters k (y ∷ ys) ≡ seen_letters k (x ∷ xs)
-seen_alike k x y xs ys s l e = go (seen k x) refl
-  where
-    go : (t : Bool) → seen k x ≡ t → seen_letters k (y ∷ ys) ≡ seen_letters k (x ∷ xs)
-    go true h =
-        let e₁ = seen_first k x xs h in
-        let e₂ = seen_first k y ys (s ∙ h) in
-        cc
-    go false h =
-        let e₁ = unseen_first k x xs h in
-        let e₂ = unseen_first k y ys (s ∙ h) in
-        cc
+unfolding view letters
+seen_alike k x y xs ys s l e = grind arith
 
 -- the way to look that goes with accepting, and with rejecting
 abbrev pub way : Bool → ℕ
@@ -62,8 +53,8 @@ decided_seen false (x ∷ xs) c = seen_or_gone 2 _ x _ xs (reject xs c) (marked 
 -- where no cell has a mark, all is seen in every way
 unmarked_seen : (a : Bool) (x : Cell) → x.put_in ≤ 0 → x.struck ≤ 0 → seen (way a) x ≡ true
 unfolding seen
-unmarked_seen true x p s = eq-eqb _ _ (omega arith)
-unmarked_seen false x p s = eq-eqb _ _ (omega arith)
+unmarked_seen true x p s = grind arith
+unmarked_seen false x p s = grind arith
 
 unmarked : (a : Bool) (xs : List Cell) → Marks (λ m. m ≤ 0) xs → letters xs ≡ seen_letters (way a) xs
 unfolding letters view

@@ -114,16 +114,12 @@ unfolding on_desk
 made_off l p d e = pick_false (made l p d) _ _ e
 
 -- deciding leaves no more cells than there were, and as many changes
-shorter_pick : (t : Bool) (y : Cell) (ys : List Cell) (n : ℕ) → length ys ≤ n → length (pick t ys (y ∷ ys)) ≤ suc n
-shorter_pick true y ys n h = omega arith
-shorter_pick false y ys n h = omega arith
-
 shorter : (a : Bool) (xs : List Cell) (c : ℕ) → length (decided a xs c) ≤ length xs
 unfolding decided accept reject
 shorter true [] c = omega arith
 shorter false [] c = omega arith
-shorter true (x ∷ xs) c = shorter_pick _ _ (accept xs c) (length xs) (shorter true xs c)
-shorter false (x ∷ xs) c = shorter_pick _ _ (reject xs c) (length xs) (shorter false xs c)
+shorter true (x ∷ xs) c = let ih = shorter true xs c in grind arith
+shorter false (x ∷ xs) c = let ih = shorter false xs c in grind arith
 
 fits_on : (l : Limits) (p : Paper) (d : Decision) → fits l p ≡ true → fits l (on_paper p d) ≡ true
 unfolding on_paper on_cells

@@ -14,12 +14,7 @@ unmarked_by x c = record { letter = x.letter; style = x.style; put_in = x.put_in
 reject_append : (xs ys : List Cell) (c : ℕ) → reject (xs ++ ys) c ≡ reject xs c ++ reject ys c
 unfolding reject
 reject_append [] ys c = refl
-reject_append (x ∷ xs) ys c = go (eqb x.put_in (suc c)) (reject_append xs ys c)
-  where
-    go : (t : Bool) → reject (xs ++ ys) c ≡ reject xs c ++ reject ys c →
-        pick t (reject (xs ++ ys) c) (unmarked_by x c ∷ reject (xs ++ ys) c) ≡ pick t (reject xs c) (unmarked_by x c ∷ reject xs c) ++ reject ys c
-    go true e = e
-    go false e = ap (λ (v : List Cell). unmarked_by x c ∷ v) e
+reject_append (x ∷ xs) ys c = let ih = reject_append xs ys c in grind arith
 
 -- a cell that stays, and is the same with its strike
 reject_first : (x y : Cell) (ys : List Cell) (c : ℕ) → y.put_in ≤ c → unmarked_by y c ≡ x → reject (y ∷ ys) c ≡ x ∷ reject ys c

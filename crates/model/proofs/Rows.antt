@@ -132,10 +132,7 @@ letters_append (x ∷ xs) ys = ap (λ (r : List ℕ). x.letter ∷ r) (letters_a
 only_solid_append : (xs ys : List ℕ) → only_solid (xs ++ ys) ≡ only_solid xs ++ only_solid ys
 unfolding only_solid
 only_solid_append [] ys = refl
-only_solid_append (x ∷ xs) ys =
-    by_test (eqb x 10 || eqb x 32) (only_solid xs) (x ∷ only_solid xs) (λ r. pick (eqb x 10 || eqb x 32) (only_solid (xs ++ ys)) (x ∷ only_solid (xs ++ ys)) ≡ r ++ only_solid ys)
-    (λ t. rw t (only_solid_append xs ys))
-    (λ t. rw t (ap (λ (r : List ℕ). x ∷ r) (only_solid_append xs ys)))
+only_solid_append (x ∷ xs) ys = let ih = only_solid_append xs ys in grind arith
 
 letter_at : (xs : List Cell) (s : ℕ) → s < length xs → letters (take 1 (drop s xs)) ≡ get_or (letters xs) s 0 ∷ []
 unfolding letters

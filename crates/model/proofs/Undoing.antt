@@ -13,13 +13,7 @@ free l d c g b f = pick_true _ _ _ g ∙ (pick_true _ _ _ (eq-eqb (turned_by d c
 
 -- the paper after a call that is not turned away fits
 pub fits_after : (l : Limits) (d : Desk) (c : Call) → turned l d c ≡ 0 → fits l (rewritten d.now c) ≡ true
-fits_after l d c e = go (good_call l c) (eqb (turned_by d c) 0) (fits l (rewritten d.now c)) refl e
-  where
-    go : (g b f : Bool) → eqb (turned_by d c) 0 ≡ b → pick g (pick b (pick f 0 9) (turned_by d c)) 2 ≡ 0 → f ≡ true
-    go true true true h z = refl
-    go true true false h z = absurd (omega arith)
-    go true false f h z = absurd (eqb-false (turned_by d c) 0 h z)
-    go false b f h z = absurd (omega arith)
+fits_after l d c e = grind arith
 
 done : (l : Limits) (d : Desk) (c : Call) → turned l d c ≡ 0 → after l d c ≡ changed l d c
 done l d c e = pick_true _ _ _ (eq-eqb (turned l d c) 0 e)

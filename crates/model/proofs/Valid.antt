@@ -50,15 +50,7 @@ open_none cs = refl
 open_below : (cs : List Change) (m : ℕ) → Open cs m → m ≤ length cs
 unfolding open_mark
 open_below cs zero h = omega arith
-open_below cs (suc c) h = go (cases_lt c (length cs))
-  where
-    go : (c < length cs) ⊎ (length cs ≤ c) → suc c ≤ length cs
-    go (inl k) = k
-    go (inr k) =
-        let z : Change = record { author = 0; became = 3 } in
-        let e : (get_or cs c z).became ≡ 0 = eqb-true _ _ h in
-        let past : (get_or cs c z).became ≡ 3 = ap (λ (v : Change). v.became) (get_or_past cs c z k) in
-        absurd (omega arith)
+open_below cs (suc c) h = grind (arith, get_or_past cs c (record { author = 0; became = 3 }))
 
 open_more : (cs : List Change) (r : Change) (m : ℕ) → Open cs m → Open (cs ++ (r ∷ [])) m
 unfolding open_mark
@@ -110,7 +102,7 @@ good_ran l (c ∷ cs) d g = good_ran l cs (after l d c) (after_all (Good l) l d 
 all_open : (xs : List Cell) (cs : List Change) → Marks (Open cs) xs → open_marks xs cs ≡ true
 unfolding open_marks
 all_open [] cs h = refl
-all_open (x ∷ xs) cs h = and_from _ _ (and_from _ _ h.0.0 h.0.1) (all_open xs cs h.1)
+all_open (x ∷ xs) cs h = let ih = all_open xs cs h.1 in grind arith
 
 pub valid_papers : ValidPapers
 unfolding ValidPapers
