@@ -8,15 +8,15 @@ use Rattle.codec.specs.Reading.{reading, call_is, ceases, head_length, whole_len
 
 pub no_byte : (bs : List ℕ) → length bs ≡ 0 → reading bs ≡ ceases 0
 unfolding reading
-no_byte bs h = rw (eq-eqb (length bs) 0 h)
+no_byte bs h = grind arith
 
 pub no_call : (bs : List ℕ) → 12 ≤ get_or bs 0 0 → reading bs ≡ ceases 0
 unfolding reading
-no_call bs h = rw (or_right (eqb (length bs) 0) (leb 12 (get_or bs 0 0)) (le-leb 12 (get_or bs 0 0) h))
+no_call bs h = grind arith
 
 module _ (bs : List ℕ) (some : length bs ≡ 0 → ⊥) (known : get_or bs 0 0 < 12) where
   begins : (eqb (length bs) 0 || leb 12 (get_or bs 0 0)) ≡ false
-  begins = or_from _ _ (ne_eqb (length bs) 0 some) (lt-leb 12 (get_or bs 0 0) known)
+  begins = grind arith
 
   pub few_fields : length bs < head_length (get_or bs 0 0) → reading bs ≡ ceases (length bs)
   unfolding reading

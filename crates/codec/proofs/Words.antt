@@ -24,8 +24,8 @@ bytes_back a b c d ha hb hc =
 pub below_at : (bs : List ℕ) → all_below 256 bs ≡ true → (i : ℕ) → get_or bs i 0 < 256
 unfolding all_below
 below_at [] h i = omega arith
-below_at (x ∷ bs) h zero = ltb-true x 256 (and_parts (ltb x 256) (all_below 256 bs) h).0
-below_at (x ∷ bs) h (suc i) = below_at bs (and_parts (ltb x 256) (all_below 256 bs) h).1 i
+below_at (x ∷ bs) h zero = grind arith
+below_at (x ∷ bs) h (suc i) = let ih = below_at bs in grind arith
 
 -- the numbers at a place, four bytes each
 abbrev pub words_at : List ℕ → ℕ → ℕ → List ℕ
