@@ -65,31 +65,6 @@ any_order a b [] c d ne =
     let e₁ = decided_none a c in
     let e₂ = decided_none b d in
     cc
-any_order a b (x ∷ xs) c d ne = go (goes a x c) (goes b x d) refl refl (any_order a b xs c d ne)
-  where
-    ne' : d ≢ c
-    ne' = λ e. ne (sym e)
-
-    go : (p q : Bool) → goes a x c ≡ p → goes b x d ≡ q → decided b (decided a xs c) d ≡ decided a (decided b xs d) c →
-        decided b (decided a (x ∷ xs) c) d ≡ decided a (decided b (x ∷ xs) d) c
-    go true true e f ih =
-        let e₁ = decided_goes a x xs c e in
-        let e₂ = decided_goes b x xs d f in
-        cc
-    go true false e f ih =
-        let e₁ = decided_goes a x xs c e in
-        let e₂ = decided_left b x xs d f in
-        let e₃ = decided_goes a (left b x d) (decided b xs d) c (goes_still b a x d c ne' ∙ e) in
-        cc
-    go false true e f ih =
-        let e₁ = decided_left a x xs c e in
-        let e₂ = decided_goes b x xs d f in
-        let e₃ = decided_goes b (left a x c) (decided a xs c) d (goes_still a b x c d ne ∙ f) in
-        cc
-    go false false e f ih =
-        let e₁ = decided_left a x xs c e in
-        let e₂ = decided_left b x xs d f in
-        let e₃ = decided_left a (left b x d) (decided b xs d) c (goes_still b a x d c ne' ∙ e) in
-        let e₄ = decided_left b (left a x c) (decided a xs c) d (goes_still a b x c d ne ∙ f) in
-        let e₅ = left_both a b x c d ne in
-        cc
+any_order a b (x ∷ xs) c d ne =
+    let ih = any_order a b xs c d ne in
+    grind (arith, decided_goes, decided_left, goes_still a b x c d ne, goes_still b a x d c (λ e. ne (sym e)), left_both a b x c d ne)

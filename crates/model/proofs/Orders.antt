@@ -123,11 +123,7 @@ shorter false (x ∷ xs) c = let ih = shorter false xs c in grind arith
 
 fits_on : (l : Limits) (p : Paper) (d : Decision) → fits l p ≡ true → fits l (on_paper p d) ≡ true
 unfolding on_paper on_cells
-fits_on l p d f =
-    let h = and_parts (leb (length p.cells) l.cells) (leb (length p.changes) l.changes) f in
-    let a = leb-true (length p.cells) l.cells h.0 in
-    let s = shorter d.accepts p.cells d.change in
-    and_from _ _ (le-leb (length (decided d.accepts p.cells d.change)) l.cells (omega arith)) (rw length-set h.1)
+fits_on l p d f = grind (arith, length-set, shorter d.accepts p.cells d.change)
 
 fits_kept : (l : Limits) (p : Paper) (d : Decision) → fits l p ≡ true → fits l (on_desk l p d) ≡ true
 unfolding on_desk
@@ -146,27 +142,9 @@ made_still l p d e ne = go (made l p d)
     go false = refl
 
 desks_commute : (l : Limits) (p : Paper) (d e : Decision) → fits l p ≡ true → d.change ≢ e.change → on_desk l (on_desk l p d) e ≡ on_desk l (on_desk l p e) d
-desks_commute l p d e f ne = go (made l p d) (made l p e) refl refl
-  where
-    ne' : e.change ≢ d.change
-    ne' = λ k. ne (sym k)
-
-    go : (s t : Bool) → made l p d ≡ s → made l p e ≡ t → on_desk l (on_desk l p d) e ≡ on_desk l (on_desk l p e) d
-    go true true h k =
-        let e₁ = made_on l p d h in
-        let e₂ = made_on l (on_desk l p d) e (made_still l p d e ne ∙ k) in
-        let e₃ = made_on l p e k in
-        let e₄ = made_on l (on_desk l p e) d (made_still l p e d ne' ∙ h) in
-        let e₅ = papers_commute p d e tt ne in
-        cc
-    go true false h k =
-        let e₁ = made_off l (on_desk l p d) e (made_still l p d e ne ∙ k) in
-        let e₂ = made_off l p e k in
-        cc
-    go false t h k =
-        let e₁ = made_off l p d h in
-        let e₂ = made_off l (on_desk l p e) d (made_still l p e d ne' ∙ h) in
-        cc
+desks_commute l p d e f ne =
+    let other : e.change ≢ d.change = λ k. ne (sym k) in
+    grind (arith, made_on, made_off, made_still l p d e ne, made_still l p e d other, papers_commute p d e tt ne)
 
 -- the checks of a call that decides, in their order: g it can be done, i the change is there, o it is open, f the paper after it fits
 all_checks : (g i o f : Bool) (x y : Desk) → f ≡ true →

@@ -31,11 +31,7 @@ one_forward l d b bs can f e =
 -- what is remembered begins with the latest, if anything is
 latest : (u : ℕ) (b : Before) (bs : List Before) → 0 < length (remembered u (b ∷ bs)) → remembered u (b ∷ bs) ≡ b ∷ remembered (u - suc b.much) bs
 unfolding remembered
-latest u b bs h = go (leb (suc b.much) u) h
-  where
-    go : (t : Bool) → 0 < length (pick t (b ∷ remembered (u - suc b.much) bs) []) → pick t (b ∷ remembered (u - suc b.much) bs) [] ≡ b ∷ remembered (u - suc b.much) bs
-    go true k = refl
-    go false k = absurd (omega arith)
+latest u b bs h = grind arith
 
 -- one step back and one forward, from a desk that remembers b
 back_forward : (l : Limits) (d : Desk) (b : Before) (bs : List Before) → l.calls_can 5 ≡ true → l.calls_can 6 ≡ true → fits l d.now ≡ true → fits l b.paper ≡ true →
