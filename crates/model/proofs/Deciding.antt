@@ -1,6 +1,5 @@
 -- Deciding a change, cell by cell: which cells go, what is left of the others, and that two changes can be decided in either order.
-use Rattle.std.proofs.Common.{◌≡◌, ℕ, suc, Bool, true, false, eqb, ◌≢◌, List, [], ◌∷◌, sym, refl, ap, ◌∙◌, arith}
-use Rattle.std.proofs.lemmas.Bool.{eqb-true, ne_eqb}
+use Rattle.std.proofs.Common.{◌≡◌, ℕ, suc, Bool, true, false, eqb, ◌≢◌, List, [], ◌∷◌, sym, refl, arith}
 use Rattle.model.specs.Paper.{pick, Cell, accept, reject}
 use Rattle.model.specs.Promise.{decided, AnyOrder}
 use Rattle.model.proofs.Picks.{pick_true, pick_false}
@@ -37,13 +36,8 @@ decided_none false c = refl
 other_mark : (m c d : ℕ) → c ≢ d → eqb (cleared m c) (suc d) ≡ eqb m (suc d)
 other_mark m c d ne = grind arith
 
-two_picks : (s t : Bool) (m : ℕ) → pick t 0 (pick s 0 m) ≡ pick s 0 (pick t 0 m)
-two_picks s t m = grind arith
-
 cleared_both : (m c d : ℕ) → c ≢ d → cleared (cleared m c) d ≡ cleared (cleared m d) c
-cleared_both m c d ne =
-    ap (λ t. pick t 0 (cleared m c)) (other_mark m c d ne)
-    ∙ (two_picks (eqb m (suc c)) (eqb m (suc d)) m ∙ ap (λ t. pick t 0 (cleared m d)) (sym (other_mark m d c (λ e. ne (sym e)))))
+cleared_both m c d ne = grind arith
 
 goes_still : (a b : Bool) (x : Cell) (c d : ℕ) → c ≢ d → goes b (left a x c) d ≡ goes b x d
 goes_still true true x c d ne = refl

@@ -1,12 +1,12 @@
 -- The paper as it was: what each call does to the letters that are seen as if all open changes were rejected.
-use Rattle.std.proofs.Common.{◌≡◌, ℕ, zero, suc, Bool, true, false, eqb, List, [], ◌∷◌, ◌++◌, length, take, drop, sym, refl, ap, ◌∙◌, arith}
+use Rattle.std.proofs.Common.{◌≡◌, ℕ, zero, suc, true, false, eqb, List, [], ◌∷◌, ◌++◌, length, take, drop, sym, refl, ap, ◌∙◌, arith}
 use Rattle.std.proofs.lemmas.List.{take-append-drop}
-use Rattle.std.proofs.lemmas.Bool.{eqb-true, ne_eqb}
-use Rattle.model.specs.Paper.{pick, Cell, Change, new_cells, author_of, strike, styled, seen, view, letters}
+use Rattle.std.proofs.lemmas.Bool.{ne_eqb}
+use Rattle.model.specs.Paper.{Cell, Change, new_cells, author_of, strike, styled, seen, view, letters}
 use Rattle.model.specs.Calls.{Call, put, strikes, accepts, rejects, styles, undo, redo, show, find, count, change, save, Desk, Limits, writes, rewritten, moved, changed, turned}
 use Rattle.model.specs.Promise.{decided, open_only, AsItWas}
 use Rattle.model.proofs.Picks.{pick_both}
-use Rattle.model.proofs.Looking.{seen_letters, seen_none, seen_first, unseen_first, seen_alike, seen_or_gone, decided_seen}
+use Rattle.model.proofs.Looking.{seen_letters, unseen_first, seen_alike, seen_or_gone, decided_seen}
 
 seen_append : (k : ℕ) (xs ys : List Cell) → seen_letters k (xs ++ ys) ≡ seen_letters k xs ++ seen_letters k ys
 unfolding view letters

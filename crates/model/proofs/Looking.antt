@@ -1,6 +1,5 @@
 -- What is seen of a paper in a way to look, and that it is what there is once all open changes are decided that way.
 use Rattle.std.proofs.Common.{◌≡◌, ℕ, zero, suc, ◌≤◌, Bool, true, false, eqb, List, [], ◌∷◌, sym, refl, ap, ◌∙◌, arith}
-use Rattle.std.proofs.lemmas.Bool.{eqb-true, eq-eqb, ne_eqb}
 use Rattle.model.specs.Paper.{pick, Cell, accept, reject, seen, view, letters}
 use Rattle.model.specs.Promise.{decided, all_decided, AsIf}
 use Rattle.model.proofs.Picks.{pick_true, pick_false}

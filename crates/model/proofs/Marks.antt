@@ -1,6 +1,6 @@
 -- What holds of all marks of some cells, and what each act on the cells does to it; a change that was decided has no mark left.
-use Rattle.std.proofs.Common.{◌≡◌, ℕ, zero, suc, ◌≤◌, Bool, true, false, ◌||◌, eqb, ◌≢◌, List, [], ◌∷◌, take, drop, refl, arith}
-use Rattle.std.proofs.lemmas.Bool.{eqb-false, ne_eqb, leb-true, le-leb, and_parts, and_from, or_from}
+use Rattle.std.proofs.Common.{◌≡◌, ℕ, zero, suc, ◌≤◌, Bool, true, false, eqb, ◌≢◌, List, [], ◌∷◌, take, drop, refl, arith}
+use Rattle.std.proofs.lemmas.Bool.{eqb-false, ne_eqb, leb-true, and_parts}
 use Rattle.model.specs.Paper.{pick, Cell, accept, reject, touched}
 use Rattle.model.specs.Promise.{decided, below}
 use Rattle.model.specs.Faults.{AllMarksGone}

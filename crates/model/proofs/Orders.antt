@@ -1,7 +1,7 @@
 -- Any list of distinct changes can be decided in any order: what commutes for two commutes for a list.
-use Rattle.std.proofs.Common.{◌≡◌, ℕ, suc, ◌≤◌, Bool, true, false, not, ◌&&◌, ◌||◌, eqb, ltb, leb, ◌≢◌, List, [], ◌∷◌, length, get_or, set, sym, refl, ap, ◌∙◌, arith}
+use Rattle.std.proofs.Common.{◌≡◌, ℕ, ◌≤◌, Bool, true, false, not, ◌&&◌, ◌||◌, eqb, ltb, ◌≢◌, List, [], ◌∷◌, length, get_or, set, sym, refl, ap, ◌∙◌, arith}
 use Rattle.std.proofs.lemmas.List.{length-set, get_or-set_other, set_comm}
-use Rattle.std.proofs.lemmas.Bool.{eqb-true, eq-eqb, ne_eqb, leb-true, le-leb, and_parts, and_from, not-true, or_parts, eqb-false}
+use Rattle.std.proofs.lemmas.Bool.{and_parts}
 use Rattle.model.specs.Paper.{pick, Cell, Change, Paper, accept, reject}
 use Rattle.model.specs.Calls.{accepts, rejects, Desk, Limits, call_number, good_fields, became, turned_by, with_became, rewritten, writes, fits, after, ran}
 use Rattle.model.specs.Promise.{decided, AnyOrder}

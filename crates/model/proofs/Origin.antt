@@ -1,10 +1,10 @@
 -- Nothing comes from nowhere: what holds of each letter that is put in holds of each letter of the paper, and of all papers that can be had back.
 -- Assumes nothing.
-use Rattle.std.proofs.Common.{◌≡◌, ℕ, zero, suc, ◌-◌, Bool, true, false, eqb, leb, List, [], ◌∷◌, ◌++◌, refl, ap, subst}
+use Rattle.std.proofs.Common.{◌≡◌, ℕ, zero, suc, Bool, true, false, List, [], ◌∷◌, ◌++◌, refl, ap, subst}
 use Rattle.std.specs.List.{ContainsAt, AllByRecursion}
 use Rattle.std.proofs.ByRecursion.{All-append, All-take, All-drop, All-weaker, all_has_itself}
 use Rattle.model.specs.Paper.{pick, Cell, Change, Paper, new_cells, strike, accept, reject, styled}
-use Rattle.model.specs.Calls.{Call, put, strikes, accepts, rejects, styles, undo, redo, show, find, count, change, save, Before, Desk, Limits, rewritten, how_much, writes, remembered, undone, redone, moved, changed, turned, after, ran, new_desk}
+use Rattle.model.specs.Calls.{Call, put, strikes, accepts, rejects, styles, undo, redo, show, find, count, change, save, Desk, Limits, rewritten, turned, after, ran, new_desk}
 use Rattle.model.specs.Origin.{PutBy, NothingFromNowhere}
 use Rattle.model.proofs.Desks.{OnDesk, after_all}
 

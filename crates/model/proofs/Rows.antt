@@ -1,5 +1,5 @@
 -- Rows: where a row is cut, that the letters stay, and how the rows follow one another. Assumes nothing.
-use Rattle.std.proofs.Common.{◌≡◌, ℕ, zero, suc, ◌+◌, ◌-◌, ◌<◌, ◌≤◌, Bool, true, false, ◌||◌, eqb, leb, ◌⊎◌, ◌↔◌, List, [], ◌∷◌, ◌++◌, length, get_or, take, drop, sym, refl, ap, ◌∙◌, subst, inl, inr, arith}
+use Rattle.std.proofs.Common.{◌≡◌, ℕ, zero, suc, ◌+◌, ◌-◌, ◌<◌, ◌≤◌, Bool, true, false, eqb, leb, ◌⊎◌, ◌↔◌, List, [], ◌∷◌, ◌++◌, length, get_or, take, drop, sym, refl, ap, ◌∙◌, subst, inl, inr, arith}
 use lib.Seq.{drop-nil}
 use Rattle.std.proofs.lemmas.Bool.{leb-true, leb-false, eqb-true, eqb-false}
 use Rattle.std.proofs.lemmas.List.{length-take, length-drop, drop-drop, take-append-drop}
@@ -31,10 +31,8 @@ no_end : (xs : List Cell) (n i k : ℕ) → first_end xs n i ≡ 0 → k < n →
 unfolding first_end letters
 no_end [] n i k e h g = omega arith
 no_end (x ∷ xs) zero i k e h g = omega arith
-no_end (x ∷ xs) (suc n) i zero e h g =
-    by_test (eqb x.letter 10) (suc i) (first_end xs n (suc i)) (λ v. v ≡ 0 → ⊥) (λ _ e. omega arith) (λ t _. eqb-false _ _ t g) e
-no_end (x ∷ xs) (suc n) i (suc k) e h g =
-    by_test (eqb x.letter 10) (suc i) (first_end xs n (suc i)) (λ v. v ≡ 0 → ⊥) (λ _ e. omega arith) (λ _ e. no_end xs n (suc i) k e (omega arith) g) e
+no_end (x ∷ xs) (suc n) i zero e h g = grind arith
+no_end (x ∷ xs) (suc n) i (suc k) e h g = let ih = no_end xs n (suc i) k in grind arith
 
 -- Where the last space is, and that there is none.
 NoSpace : List Cell → ℕ → ℕ → Type 0

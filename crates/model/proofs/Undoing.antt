@@ -1,6 +1,6 @@
 -- One step back brings the paper back, one step forward again brings the undone one back; a call that is turned away leaves the desk.
-use Rattle.std.proofs.Common.{◌≡◌, ℕ, suc, ◌-◌, ◌<◌, Bool, true, false, eqb, leb, List, [], ◌∷◌, length, refl, ap, ◌∙◌, subst, arith}
-use Rattle.std.proofs.lemmas.Bool.{eqb-false, eq-eqb, ne_eqb, and_from}
+use Rattle.std.proofs.Common.{◌≡◌, ℕ, suc, ◌-◌, ◌<◌, true, eqb, List, [], ◌∷◌, length, refl, ap, ◌∙◌, subst, arith}
+use Rattle.std.proofs.lemmas.Bool.{eq-eqb, ne_eqb, and_from}
 use Rattle.model.specs.Paper.{pick}
 use Rattle.model.specs.Calls.{Call, undo, redo, Desk, Before, Limits, call_number, good_fields, good_call, writes, rewritten, how_much, remembered, undone, redone, moved, changed, fits, turned_by, turned, after, refused, told, place, answers}
 use Rattle.model.specs.Promise.{Undone, TurnedAway}

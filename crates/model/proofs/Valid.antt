@@ -1,9 +1,9 @@
 -- What holds of the empty paper and stays with every call: it fits the limits, and every mark is of an open change.
-use Rattle.std.proofs.Common.{◌≡◌, ℕ, zero, suc, ◌-◌, ◌<◌, ◌≤◌, Bool, true, false, eqb, leb, ◌≢◌, ◌⊎◌, List, [], ◌∷◌, ◌++◌, length, get_or, take, set, refl, ap, ◌∙◌, inl, inr, arith}
+use Rattle.std.proofs.Common.{◌≡◌, ℕ, zero, suc, ◌<◌, ◌≤◌, true, false, eqb, ◌≢◌, List, [], ◌∷◌, ◌++◌, length, take, set, refl, ap, ◌∙◌, arith}
 use Rattle.std.proofs.lemmas.List.{get_or_append_left, get_or_at, get_or-set_other, get_or_past}
-use Rattle.std.proofs.lemmas.Bool.{eqb-true, le-leb, and_from, cases_lt}
-use Rattle.model.specs.Paper.{pick, Cell, Change, Paper, new_cells, strike, styled}
-use Rattle.model.specs.Calls.{Call, put, strikes, accepts, rejects, styles, undo, redo, show, find, count, change, save, Before, Desk, Limits, rewritten, writes, remembered, undone, redone, moved, changed, fits, turned, after, ran, new_desk}
+use Rattle.std.proofs.lemmas.Bool.{le-leb, and_from}
+use Rattle.model.specs.Paper.{Cell, Change, Paper, new_cells, strike, styled}
+use Rattle.model.specs.Calls.{Call, put, strikes, accepts, rejects, styles, undo, redo, show, find, count, change, save, Desk, Limits, rewritten, fits, after, ran, new_desk}
 use Rattle.model.specs.Promise.{decided}
 use Rattle.model.specs.Valid.{open_mark, open_marks, ValidPapers}
 use Rattle.model.proofs.Picks.{pick_both}
