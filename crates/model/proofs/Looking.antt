@@ -9,10 +9,6 @@ use Rattle.model.proofs.Marks.{Marks, marks_decided, below_marks}
 abbrev pub seen_letters : ℕ → List Cell → List ℕ
 seen_letters k xs = letters (view k xs)
 
-pub seen_none : (k : ℕ) → seen_letters k [] ≡ []
-unfolding view letters
-seen_none k = refl
-
 pub seen_first : (k : ℕ) (x : Cell) (xs : List Cell) → seen k x ≡ true → seen_letters k (x ∷ xs) ≡ x.letter ∷ seen_letters k xs
 unfolding view letters
 seen_first k x xs e = ap letters (pick_true (seen k x) _ _ e)
