@@ -1,7 +1,7 @@
 -- A call is readable if, and only if, its bytes are below 256.
-use Rattle.std.proofs.Common.{◌≡◌, ℕ, ◌/◌, ◌%◌, ◌&&◌, ltb, List, ◌++◌, sym, refl, ◌∙◌, inl, inr, append_assoc, arith}
+use Rattle.std.proofs.Common.{◌≡◌, ℕ, ◌/◌, ◌%◌, ◌&&◌, ltb, List, ◌++◌, refl, append_assoc, arith}
 use mathlib.Core.Bool.{and_assoc, and-true}
-use Rattle.std.proofs.lemmas.Bool.{cases_lt, lt-ltb, le-ltb}
+use Rattle.std.proofs.lemmas.Bool.{lt-ltb}
 use Rattle.model.specs.Calls.{put, strikes, accepts, rejects, styles, undo, redo, show, find, count, change, save}
 use Rattle.model.specs.Promise.{readable, all_below}
 use Rattle.codec.specs.Bytes.{word_bytes, words_bytes, call_bytes}

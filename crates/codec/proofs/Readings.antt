@@ -1,6 +1,6 @@
 -- What bytes read as, by the tests that they pass.
 use Rattle.std.proofs.Common.{◌≡◌, ℕ, ◌<◌, ◌≤◌, false, ◌||◌, eqb, ltb, leb, List, length, get_or, drop, arith}
-use Rattle.std.proofs.lemmas.Bool.{eq-eqb, ne_eqb, le-leb, lt-leb, lt-ltb, le-ltb, or_right, or_from}
+use Rattle.std.proofs.lemmas.Bool.{lt-ltb, le-ltb}
 use Rattle.codec.specs.declared.kind.Kind.{Kind}
 use Rattle.codec.specs.declared.kind.Kind.TheVariants as kind
 use Rattle.codec.specs.Kinds.{kind_number}
