@@ -12,6 +12,7 @@ pub enum Form {
     Numbers,
 }
 
+// The first bytes are numbers here, and nowhere else.
 impl From<Form> for u8 {
     ghost from_gives = { λ form byte. byte ≡ form_number form };
 

@@ -27,6 +27,7 @@ pub enum Kind {
 #[derive(Clone, Copy, Debug, PartialEq, Eq, Hash)]
 pub struct UnknownKind(pub u8);
 
+// The first bytes are numbers here, and nowhere else.
 impl TryFrom<u8> for Kind {
     type Error = UnknownKind;
 

@@ -103,7 +103,8 @@ pub fn read(bytes: &[u8]) -> Result<(Call, &[u8]), usize>
 }
 
 // Writes a number at a place: one of a row of numbers, or how many cells a row has. The answer is the place after it, here and below.
-// The bytes and the place are two parameters: the bytes are lent memory that callers fill piece by piece, in loops whose state is the place.
+// In this function and the next four the bytes and the place are two parameters: the bytes are lent memory that callers fill piece by piece, in
+// loops whose state is the place.
 pub fn number(out: &mut [u8], at: usize, n: u32) -> usize
     requires { at + 4 ≤ length out.old }
     ensures bytes { out.new ≡ over out.old at (word_bytes n) }

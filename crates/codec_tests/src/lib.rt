@@ -13,6 +13,7 @@ mod tests {
             return Err(Fail::new("no bytes"));
         };
         assert_eq!(rt; codec::read(alone), Ok((call, letters)));
+        // A range, as `n` is how many bytes are read.
         for n in 0..alone.len() {
             assert_eq!(rt; codec::read(&alone[..n]), Err(n));
         }
