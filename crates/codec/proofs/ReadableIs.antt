@@ -1,18 +1,14 @@
 -- A call is readable if, and only if, its bytes are below 256.
-use Rattle.std.proofs.Common.{◌≡◌, ℕ, ◌/◌, ◌%◌, ◌&&◌, ltb, List, ◌++◌, sym, refl, ◌∙◌, inl, inr, append_assoc, arith}
+use Rattle.std.proofs.Common.{◌≡◌, ℕ, ◌/◌, ◌%◌, ◌&&◌, ltb, List, ◌++◌, refl, append_assoc, arith}
 use mathlib.Core.Bool.{and_assoc, and-true}
-use Rattle.std.proofs.lemmas.Bool.{cases_lt, lt-ltb, le-ltb}
+use Rattle.std.proofs.lemmas.Bool.{lt-ltb}
 use Rattle.model.specs.Calls.{put, strikes, accepts, rejects, styles, undo, redo, show, find, count, change, save}
 use Rattle.model.specs.Promise.{readable, all_below}
 use Rattle.codec.specs.Bytes.{word_bytes, words_bytes, call_bytes}
 use Rattle.codec.specs.Laws.{ReadableIs}
 
 last_byte : (n : ℕ) → ltb (n / 16777216) 256 ≡ ltb n 4294967296
-last_byte n =
-    elim (cases_lt n 4294967296) [
-      | inl h ↦ lt-ltb (n / 16777216) 256 (omega arith) ∙ sym (lt-ltb n 4294967296 h)
-      | inr h ↦ le-ltb (n / 16777216) 256 (omega arith) ∙ sym (le-ltb n 4294967296 h)
-    ]
+last_byte n = grind arith
 
 below_word : (n : ℕ) (bs : List ℕ) → all_below 256 (word_bytes n ++ bs) ≡ (ltb n 4294967296 && all_below 256 bs)
 unfolding word_bytes all_below

@@ -1,19 +1,22 @@
 -- What bytes read as, by the tests that they pass.
 use Rattle.std.proofs.Common.{◌≡◌, ℕ, ◌<◌, ◌≤◌, false, ◌||◌, eqb, ltb, leb, List, length, get_or, drop, arith}
-use Rattle.std.proofs.lemmas.Bool.{eq-eqb, ne_eqb, le-leb, lt-leb, lt-ltb, le-ltb, or_right, or_from}
+use Rattle.std.proofs.lemmas.Bool.{lt-ltb, le-ltb}
+use Rattle.codec.specs.declared.kind.Kind.{Kind}
+use Rattle.codec.specs.declared.kind.Kind.TheVariants as kind
+use Rattle.codec.specs.Kinds.{kind_number}
 use Rattle.codec.specs.Reading.{reading, call_is, ceases, head_length, whole_length, call_of}
 
 pub no_byte : (bs : List ℕ) → length bs ≡ 0 → reading bs ≡ ceases 0
 unfolding reading
-no_byte bs h = rw (eq-eqb (length bs) 0 h)
+no_byte bs h = grind arith
 
 pub no_call : (bs : List ℕ) → 12 ≤ get_or bs 0 0 → reading bs ≡ ceases 0
 unfolding reading
-no_call bs h = rw (or_right (eqb (length bs) 0) (leb 12 (get_or bs 0 0)) (le-leb 12 (get_or bs 0 0) h))
+no_call bs h = grind arith
 
 module _ (bs : List ℕ) (some : length bs ≡ 0 → ⊥) (known : get_or bs 0 0 < 12) where
   begins : (eqb (length bs) 0 || leb 12 (get_or bs 0 0)) ≡ false
-  begins = or_from _ _ (ne_eqb (length bs) 0 some) (lt-leb 12 (get_or bs 0 0) known)
+  begins = grind arith
 
   pub few_fields : length bs < head_length (get_or bs 0 0) → reading bs ≡ ceases (length bs)
   unfolding reading
@@ -39,3 +42,18 @@ module _ (bs : List ℕ) (some : length bs ≡ 0 → ⊥) (known : get_or bs 0 0
         let le : whole_length bs ≤ length bs = omega arith in
         let ge : length bs ≤ whole_length bs = omega arith in
         rw (begins, fields, le-ltb (length bs) (whole_length bs) le, le-ltb (whole_length bs) (length bs) ge)
+
+-- a byte that is the number of a kind is the first byte of a call
+pub known : (bs : List ℕ) (k : Kind) → get_or bs 0 0 ≡ kind_number k → get_or bs 0 0 < 12
+known bs kind.Put e = omega arith
+known bs kind.Strike e = omega arith
+known bs kind.Accept e = omega arith
+known bs kind.Reject e = omega arith
+known bs kind.Style e = omega arith
+known bs kind.Undo e = omega arith
+known bs kind.Redo e = omega arith
+known bs kind.Show e = omega arith
+known bs kind.Find e = omega arith
+known bs kind.Count e = omega arith
+known bs kind.Change e = omega arith
+known bs kind.Save e = omega arith

@@ -1,42 +1,30 @@
 -- A number and its four bytes.
-use Rattle.std.proofs.Common.{◌≡◌, ℕ, zero, suc, ◌+◌, ◌*◌, ◌/◌, ◌%◌, ◌<◌, ◌≤◌, true, ltb, List, [], ◌∷◌, ◌++◌, length, get_or, drop, append_assoc, add-zero, arith}
-use native.Mathlib.Nat.{div-div-eq-div-mul}
-use lib.Arith.{digits_div, digits_mod}
+use Rattle.std.proofs.Common.{◌≡◌, ℕ, zero, suc, ◌+◌, ◌*◌, ◌/◌, ◌%◌, ◌<◌, ◌≤◌, true, List, [], ◌∷◌, ◌++◌, length, get_or, drop, append_assoc, add-zero, arith}
 use Rattle.std.proofs.lemmas.List.{drop_more}
-use Rattle.std.proofs.lemmas.Bool.{ltb-true, and_parts}
 use Rattle.model.specs.Promise.{all_below}
 use Rattle.codec.specs.Bytes.{word_bytes, words_bytes}
 use Rattle.codec.specs.Reading.{word_at}
 
 -- the bytes of a number make the number, however large
 pub word_back : (n : ℕ) → n % 256 + (256 * (n / 256 % 256) + (65536 * (n / 65536 % 256) + 16777216 * (n / 16777216))) ≡ n
-word_back n = omega (arith, div-div-eq-div-mul n 256 256, div-div-eq-div-mul n 65536 256)
+word_back n = omega arith
 
 -- and four bytes are those of the number that they make
 pub bytes_back : (a b c d : ℕ) → a < 256 → b < 256 → c < 256 → word_bytes (a + (256 * b + (65536 * c + 16777216 * d))) ≡ a ∷ (b ∷ (c ∷ (d ∷ [])))
 unfolding word_bytes
 bytes_back a b c d ha hb hc =
     let n = a + (256 * b + (65536 * c + 16777216 * d)) in
-    let q = b + (256 * c + 65536 * d) in
-    let r = c + 256 * d in
-    let en : n ≡ q * 256 + a = omega arith in
-    let eq : q ≡ r * 256 + b = omega arith in
-    let er : r ≡ d * 256 + c = omega arith in
-    let n1 : n / 256 ≡ q = rw en (digits_div q ha) in
-    let q1 : q / 256 ≡ r = rw eq (digits_div r hb) in
-    let r1 : r / 256 ≡ d = rw er (digits_div d hc) in
-    let ea : n % 256 ≡ a = rw en (digits_mod q ha) in
-    let eb : q % 256 ≡ b = rw eq (digits_mod r hb) in
-    let ec : r % 256 ≡ c = rw er (digits_mod d hc) in
-    let d2 : n / 256 / 256 ≡ n / 65536 = div-div-eq-div-mul n 256 256 in
-    let d3 : n / 65536 / 256 ≡ n / 16777216 = div-div-eq-div-mul n 65536 256 in
+    let first : n % 256 ≡ a = omega arith in
+    let second : n / 256 % 256 ≡ b = omega arith in
+    let third : n / 65536 % 256 ≡ c = omega arith in
+    let last : n / 16777216 ≡ d = omega arith in
     cc
 
 pub below_at : (bs : List ℕ) → all_below 256 bs ≡ true → (i : ℕ) → get_or bs i 0 < 256
 unfolding all_below
 below_at [] h i = omega arith
-below_at (x ∷ bs) h zero = ltb-true x 256 (and_parts (ltb x 256) (all_below 256 bs) h).0
-below_at (x ∷ bs) h (suc i) = below_at bs (and_parts (ltb x 256) (all_below 256 bs) h).1 i
+below_at (x ∷ bs) h zero = grind arith
+below_at (x ∷ bs) h (suc i) = let ih = below_at bs in grind arith
 
 -- the numbers at a place, four bytes each
 abbrev pub words_at : List ℕ → ℕ → ℕ → List ℕ

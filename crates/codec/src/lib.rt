@@ -2,16 +2,24 @@
 // numbers is written at once; rows and rows of numbers are written piece by piece, each piece at a place of the lent bytes.
 #![tactic(auto)]
 
-ghost use Rattle.std.specs.Prelude.{◌≡◌, ℕ, ◌+◌, ◌<◌, ◌≤◌, List, [], ◌∷◌, ◌++◌, length, drop, Ok, Err, slice_index};
+ghost use Rattle.std.specs.Prelude.{◌≡◌, ◌+◌, ◌<◌, ◌≤◌, [], ◌∷◌, ◌++◌, length, drop, Ok, Err, slice_index};
 ghost use Rattle.model.specs.Values.{cell_of};
 ghost use Rattle.codec.specs.Bytes.{word_bytes, words_bytes, cells_bytes, answer_bytes};
-ghost use Rattle.codec.specs.Reading.{reading, call_is, ceases, word_at, head_length, letter_count, call_of};
+ghost use Rattle.codec.specs.Kinds.{form_number};
+ghost use Rattle.codec.specs.Reading.{reading, call_is, ceases, head_length};
 ghost use Rattle.codec.specs.Values.{meaning, told};
 ghost use Rattle.codec.specs.Over.{over};
 ghost use Rattle.codec.specs.Laws.{ReadableIs, ReadsBack, ReadsOnly, OneAnswer};
 
-// The numbers of a call. The letters of Put and Find are not in it: they stand beside it, where they came.
-#[derive(Clone, Copy)]
+mod form;
+mod kind;
+
+use form::Form;
+use kind::Kind;
+
+// The numbers of a call. The letters of Put and Find are not in it: they stand beside it, where they came. A way to look is a number here,
+// since any number can come: one that names no way is refused by whoever has the paper.
+#[derive(Clone, Copy, Debug, PartialEq, Eq, Hash)]
 pub enum Call {
     Put {
         author: u32,
@@ -59,99 +67,11 @@ pub enum Call {
 }
 
 // The answers of up to two numbers: the number of a refusal and its place; a number; two numbers.
-#[derive(Clone, Copy)]
+#[derive(Clone, Copy, Debug, PartialEq, Eq, Hash)]
 pub enum Answer {
     Refused(u32, u32),
     Number(u32),
     Two(u32, u32),
-}
-
-// The number in four bytes, low byte first.
-fn word_at(bytes: &[u8], at: usize) -> u32
-    requires { at + 4 ≤ length bytes.now }
-    ensures { result ≡ word_at bytes.now at }
-{
-    bytes[at] as u32
-        + (256 * bytes[at + 1] as u32
-            + (65536 * bytes[at + 2] as u32 + 16777216 * bytes[at + 3] as u32))
-}
-
-// How many bytes a call has before its letters.
-fn head_length(first: u8) -> usize
-    requires { first < 12 }
-    ensures { result ≡ head_length first }
-{
-    match first {
-        0 | 7 => 17,
-        1 | 4 | 8 => 13,
-        2 | 3 | 9 | 10 => 5,
-        5 | 6 => 1,
-        _ => 9,
-    }
-}
-
-// How many letters a call should have.
-fn letter_count(bytes: &[u8]) -> u32
-    requires { (0 < length bytes.now) × (head_length (slice_index bytes.now 0) ≤ length bytes.now) }
-    ensures { result ≡ letter_count bytes.now }
-{
-    match bytes[0] {
-        0 => word_at(bytes, 13),
-        8 => word_at(bytes, 9),
-        _ => 0,
-    }
-}
-
-// The numbers of the call that begins with these bytes.
-fn fields(bytes: &[u8]) -> Call
-    requires { (0 < length bytes.now) × (head_length (slice_index bytes.now 0) ≤ length bytes.now) }
-    ensures { (ls : List ℕ) → meaning result ls ≡ call_of bytes.now ls }
-{
-    match bytes[0] {
-        0 => Call::Put {
-            author: word_at(bytes, 1),
-            place: word_at(bytes, 5),
-            style: word_at(bytes, 9),
-        },
-        1 => Call::Strike {
-            author: word_at(bytes, 1),
-            place: word_at(bytes, 5),
-            count: word_at(bytes, 9),
-        },
-        2 => Call::Accept {
-            change: word_at(bytes, 1),
-        },
-        3 => Call::Reject {
-            change: word_at(bytes, 1),
-        },
-        4 => Call::Style {
-            place: word_at(bytes, 1),
-            count: word_at(bytes, 5),
-            style: word_at(bytes, 9),
-        },
-        5 => Call::Undo,
-        6 => Call::Redo,
-        7 => Call::Show {
-            way: word_at(bytes, 1),
-            width: word_at(bytes, 5),
-            row: word_at(bytes, 9),
-            count: word_at(bytes, 13),
-        },
-        8 => Call::Find {
-            way: word_at(bytes, 1),
-            from: word_at(bytes, 5),
-        },
-        9 => Call::Count {
-            way: word_at(bytes, 1),
-        },
-        10 => Call::Change {
-            change: word_at(bytes, 1),
-        },
-        _ => Call::Save {
-            from: word_at(bytes, 1),
-            count: word_at(bytes, 5),
-        },
-    }
 }
 
 // The call that these bytes are and its letters, which are all after its fields, or the place where they cease to be a call.
@@ -161,44 +81,46 @@ pub fn read(bytes: &[u8]) -> Result<(Call, &[u8]), usize>
       | Err i ↦ (reading bytes.now ≡ ceases i) × (i ≤ length bytes.now)
     ] }
 {
-    let len = bytes.len();
-    if len == 0 || bytes[0] >= 12 {
+    let Some(first) = bytes.first() else {
         return Err(0);
-    }
-    let head = head_length(bytes[0]);
+    };
+    let Ok(kind) = Kind::try_from(*first) else {
+        return Err(0);
+    };
+    let len = bytes.len();
+    let head = kind.head_length();
     if len < head {
         return Err(len);
     }
-    let whole = head + letter_count(bytes) as usize;
+    let whole = head + kind.letter_count(bytes) as usize;
     if len < whole {
         return Err(len);
     }
     if whole < len {
         return Err(whole);
     }
-    Ok((fields(bytes), &bytes[head..]))
+    Ok((kind.call(bytes), &bytes[head..]))
 }
 
 // Writes a number at a place: one of a row of numbers, or how many cells a row has. The answer is the place after it, here and below.
+// In this function and the next four the bytes and the place are two parameters: the bytes are lent memory that callers fill piece by piece, in
+// loops whose state is the place.
 pub fn number(out: &mut [u8], at: usize, n: u32) -> usize
     requires { at + 4 ≤ length out.old }
     ensures bytes { out.new ≡ over out.old at (word_bytes n) }
     ensures next { result ≡ at + 4 }
 {
-    out[at] = (n % 256) as u8;
-    out[at + 1] = (n / 256 % 256) as u8;
-    out[at + 2] = (n / 65536 % 256) as u8;
-    out[at + 3] = (n / 16777216) as u8;
+    out[at..at + 4].copy_from_slice(&n.to_le_bytes());
     at + 4
 }
 
-// Writes a byte that says which form of answer it is, and a number.
-fn form(out: &mut [u8], at: usize, which: u8, n: u32) -> usize
+// Begins an answer: its form, and its first number.
+fn begin(out: &mut [u8], at: usize, form: Form, n: u32) -> usize
     requires { at + 5 ≤ length out.old }
-    ensures bytes { out.new ≡ over out.old at (which ∷ word_bytes n) }
+    ensures bytes { out.new ≡ over out.old at (form_number form ∷ word_bytes n) }
     ensures next { result ≡ at + 5 }
 {
-    out[at] = which;
+    out[at] = u8::from(form);
     number(out, at + 1, n)
 }
 
@@ -208,7 +130,7 @@ pub fn begin_rows(out: &mut [u8], at: usize, count: u32) -> usize
     ensures bytes { out.new ≡ over out.old at (3 ∷ word_bytes count) }
     ensures next { result ≡ at + 5 }
 {
-    form(out, at, 3, count)
+    begin(out, at, Form::Rows, count)
 }
 
 // Begins an answer of a row of numbers: how many there are.
@@ -217,7 +139,7 @@ pub fn begin_numbers(out: &mut [u8], at: usize, count: u32) -> usize
     ensures bytes { out.new ≡ over out.old at (4 ∷ word_bytes count) }
     ensures next { result ≡ at + 5 }
 {
-    form(out, at, 4, count)
+    begin(out, at, Form::Numbers, count)
 }
 
 // Writes a cell of a row.
@@ -233,52 +155,45 @@ pub fn cell(out: &mut [u8], at: usize, x: model::Cell) -> usize
 }
 
 // Writes an answer of two numbers.
-fn pair(out: &mut [u8], which: u8, m: u32, n: u32) -> usize
+fn pair(out: &mut [u8], form: Form, m: u32, n: u32) -> usize
     requires { 9 ≤ length out.old }
-    ensures bytes { out.new ≡ over out.old 0 (which ∷ words_bytes (m ∷ (n ∷ []))) }
+    ensures bytes { out.new ≡ over out.old 0 (form_number form ∷ words_bytes (m ∷ (n ∷ []))) }
     ensures next { result ≡ 9 }
 {
-    let at = form(out, 0, which, m);
+    let at = begin(out, 0, form, m);
     number(out, at, n)
 }
 
 // Writes an answer of up to two numbers, and says how many bytes it has.
+#[tactic(auto, using(crate::proofs::Writes::over_start), unfolding(crate::specs::Bytes::answer_bytes, crate::specs::Bytes::words_bytes, crate::specs::Bytes::word_bytes))]
 pub fn write(answer: Answer, out: &mut [u8]) -> usize
     requires { 9 ≤ length out.old }
     ensures bytes { out.new ≡ answer_bytes (told answer) ++ drop result out.old }
     ensures long { result ≡ length (answer_bytes (told answer)) }
 {
     match answer {
-        Answer::Refused(number, place) => pair(out, 0, number, place),
-        Answer::Number(n) => form(out, 0, 1, n),
-        Answer::Two(m, n) => pair(out, 2, m, n),
+        Answer::Refused(number, place) => pair(out, Form::Refused, number, place),
+        Answer::Number(n) => begin(out, 0, Form::Number, n),
+        Answer::Two(m, n) => pair(out, Form::Two, m, n),
     }
 }
 
 // A call is readable if, and only if, each of its bytes is below 256.
-pub fn readable_is() -> u8
+pub fn readable_is()
     ensures { ReadableIs }
-{
-    0
-}
+{}
 
 // The bytes of a call are read as that call.
-pub fn reads_back() -> u8
+pub fn reads_back()
     ensures { ReadsBack }
-{
-    0
-}
+{}
 
 // Only those bytes are read as it.
-pub fn reads_only() -> u8
+pub fn reads_only()
     ensures { ReadsOnly }
-{
-    0
-}
+{}
 
 // Two answers with the same bytes are the same answer.
-pub fn one_answer() -> u8
+pub fn one_answer()
     ensures { OneAnswer }
-{
-    0
-}
+{}

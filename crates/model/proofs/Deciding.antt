@@ -1,6 +1,5 @@
 -- Deciding a change, cell by cell: which cells go, what is left of the others, and that two changes can be decided in either order.
-use Rattle.std.proofs.Common.{◌≡◌, ℕ, suc, Bool, true, false, eqb, ◌≢◌, List, [], ◌∷◌, sym, refl, ap, ◌∙◌, arith}
-use Rattle.std.proofs.lemmas.Bool.{eqb-true, ne_eqb}
+use Rattle.std.proofs.Common.{◌≡◌, ℕ, suc, Bool, true, false, eqb, ◌≢◌, List, [], ◌∷◌, sym, refl, arith}
 use Rattle.model.specs.Paper.{pick, Cell, accept, reject}
 use Rattle.model.specs.Promise.{decided, AnyOrder}
 use Rattle.model.proofs.Picks.{pick_true, pick_false}
@@ -35,25 +34,10 @@ decided_none false c = refl
 
 -- clearing the mark of one change leaves the marks of another
 other_mark : (m c d : ℕ) → c ≢ d → eqb (cleared m c) (suc d) ≡ eqb m (suc d)
-other_mark m c d ne = go (eqb m (suc c)) refl
-  where
-    go : (t : Bool) → eqb m (suc c) ≡ t → eqb (cleared m c) (suc d) ≡ eqb m (suc d)
-    go true e =
-        let n : eqb m (suc d) ≡ false = ne_eqb m (suc d) (λ k. let h = eqb-true m (suc c) e in omega arith) in
-        let z : eqb 0 (suc d) ≡ false = ne_eqb 0 (suc d) (λ k. omega arith) in
-        ap (λ v. eqb v (suc d)) (pick_true (eqb m (suc c)) 0 m e) ∙ (z ∙ sym n)
-    go false e = ap (λ v. eqb v (suc d)) (pick_false (eqb m (suc c)) 0 m e)
-
-two_picks : (s t : Bool) (m : ℕ) → pick t 0 (pick s 0 m) ≡ pick s 0 (pick t 0 m)
-two_picks true true m = refl
-two_picks true false m = refl
-two_picks false true m = refl
-two_picks false false m = refl
+other_mark m c d ne = grind arith
 
 cleared_both : (m c d : ℕ) → c ≢ d → cleared (cleared m c) d ≡ cleared (cleared m d) c
-cleared_both m c d ne =
-    ap (λ t. pick t 0 (cleared m c)) (other_mark m c d ne)
-    ∙ (two_picks (eqb m (suc c)) (eqb m (suc d)) m ∙ ap (λ t. pick t 0 (cleared m d)) (sym (other_mark m d c (λ e. ne (sym e)))))
+cleared_both m c d ne = grind arith
 
 goes_still : (a b : Bool) (x : Cell) (c d : ℕ) → c ≢ d → goes b (left a x c) d ≡ goes b x d
 goes_still true true x c d ne = refl
@@ -75,31 +59,6 @@ any_order a b [] c d ne =
     let e₁ = decided_none a c in
     let e₂ = decided_none b d in
     cc
-any_order a b (x ∷ xs) c d ne = go (goes a x c) (goes b x d) refl refl (any_order a b xs c d ne)
-  where
-    ne' : d ≢ c
-    ne' = λ e. ne (sym e)
-
-    go : (p q : Bool) → goes a x c ≡ p → goes b x d ≡ q → decided b (decided a xs c) d ≡ decided a (decided b xs d) c →
-        decided b (decided a (x ∷ xs) c) d ≡ decided a (decided b (x ∷ xs) d) c
-    go true true e f ih =
-        let e₁ = decided_goes a x xs c e in
-        let e₂ = decided_goes b x xs d f in
-        cc
-    go true false e f ih =
-        let e₁ = decided_goes a x xs c e in
-        let e₂ = decided_left b x xs d f in
-        let e₃ = decided_goes a (left b x d) (decided b xs d) c (goes_still b a x d c ne' ∙ e) in
-        cc
-    go false true e f ih =
-        let e₁ = decided_left a x xs c e in
-        let e₂ = decided_goes b x xs d f in
-        let e₃ = decided_goes b (left a x c) (decided a xs c) d (goes_still a b x c d ne ∙ f) in
-        cc
-    go false false e f ih =
-        let e₁ = decided_left a x xs c e in
-        let e₂ = decided_left b x xs d f in
-        let e₃ = decided_left a (left b x d) (decided b xs d) c (goes_still b a x d c ne' ∙ e) in
-        let e₄ = decided_left b (left a x c) (decided a xs c) d (goes_still a b x c d ne ∙ f) in
-        let e₅ = left_both a b x c d ne in
-        cc
+any_order a b (x ∷ xs) c d ne =
+    let ih = any_order a b xs c d ne in
+    grind (arith, decided_goes, decided_left, goes_still a b x c d ne, goes_still b a x d c (λ e. ne (sym e)), left_both a b x c d ne)

@@ -1,7 +1,7 @@
 -- What is found stands there and nowhere earlier, and what is not found stands nowhere. Assumes nothing.
 use Rattle.std.proofs.Common.{◌≡◌, ℕ, zero, suc, ◌+◌, ◌<◌, ◌≤◌, Bool, true, false, ◌&&◌, leb, List, [], ◌∷◌, length, drop, refl, subst, arith}
 use lib.Seq.{drop-nil}
-use Rattle.std.proofs.lemmas.Bool.{leb-true, le-leb, and_parts}
+use Rattle.std.proofs.lemmas.Bool.{leb-true, and_parts}
 use Rattle.model.specs.Paper.{Cell}
 use Rattle.model.specs.Rows.{begins, find_in}
 use Rattle.model.specs.Promise.{FoundFirst, NotFound}
@@ -12,7 +12,7 @@ Found : List Cell → List ℕ → ℕ → ℕ → ℕ → Type 0
 Found xs ls from i k = (from ≤ i + k) × (begins (drop k xs) ls ≡ true) × ((j : ℕ) → from ≤ i + j → j < k → begins (drop j xs) ls ≡ false)
 
 fails : (from i : ℕ) (b : Bool) → (leb from i && b) ≡ false → from ≤ i → b ≡ false
-fails from i b e h = rw (le-leb from i h) at e
+fails from i b e h = grind arith
 
 here : (xs : List Cell) (ls : List ℕ) (from i s : ℕ) → (leb from i && begins xs ls) ≡ true → suc i ≡ suc s → (k : ℕ) × (s ≡ i + k) × Found xs ls from i k
 unfolding Found
@@ -50,12 +50,8 @@ none_begins (l ∷ ls) h = refl
 nowhere : (xs : List Cell) (ls : List ℕ) (from i k : ℕ) → 0 < length ls → find_in xs ls from i ≡ 0 → from ≤ i + k → begins (drop k xs) ls ≡ false
 unfolding find_in
 nowhere [] ls from i k h e l = rw (drop-nil k) (none_begins ls h)
-nowhere (x ∷ xs) ls from i zero h e l =
-    by_test (leb from i && begins (x ∷ xs) ls) (suc i) (find_in xs ls from (suc i)) (λ v. v ≡ 0 → begins (x ∷ xs) ls ≡ false)
-    (λ _ e. absurd (omega arith)) (λ t _. fails from i _ t (omega arith)) e
-nowhere (x ∷ xs) ls from i (suc k) h e l =
-    by_test (leb from i && begins (x ∷ xs) ls) (suc i) (find_in xs ls from (suc i)) (λ v. v ≡ 0 → begins (drop k xs) ls ≡ false)
-    (λ _ e. absurd (omega arith)) (λ _ e. nowhere xs ls from (suc i) k h e (omega arith)) e
+nowhere (x ∷ xs) ls from i zero h e l = grind arith
+nowhere (x ∷ xs) ls from i (suc k) h e l = let ih = nowhere xs ls from (suc i) k h in grind arith
 
 pub not_found : NotFound
 unfolding NotFound

@@ -1,25 +1,17 @@
 -- The paper as it was: what each call does to the letters that are seen as if all open changes were rejected.
-use Rattle.std.proofs.Common.{◌≡◌, ℕ, zero, suc, Bool, true, false, eqb, List, [], ◌∷◌, ◌++◌, length, take, drop, sym, refl, ap, ◌∙◌, arith}
+use Rattle.std.proofs.Common.{◌≡◌, ℕ, zero, suc, true, false, eqb, List, [], ◌∷◌, ◌++◌, length, take, drop, sym, refl, ap, ◌∙◌, arith}
 use Rattle.std.proofs.lemmas.List.{take-append-drop}
-use Rattle.std.proofs.lemmas.Bool.{eqb-true, ne_eqb}
-use Rattle.model.specs.Paper.{pick, Cell, Change, new_cells, author_of, strike, styled, seen}
+use Rattle.std.proofs.lemmas.Bool.{ne_eqb}
+use Rattle.model.specs.Paper.{Cell, Change, new_cells, author_of, strike, styled, seen, view, letters}
 use Rattle.model.specs.Calls.{Call, put, strikes, accepts, rejects, styles, undo, redo, show, find, count, change, save, Desk, Limits, writes, rewritten, moved, changed, turned}
 use Rattle.model.specs.Promise.{decided, open_only, AsItWas}
-use Rattle.model.proofs.Looking.{seen_letters, seen_none, seen_first, unseen_first, seen_alike, seen_or_gone, decided_seen}
+use Rattle.model.proofs.Picks.{pick_both}
+use Rattle.model.proofs.Looking.{seen_letters, unseen_first, seen_alike, seen_or_gone, decided_seen}
 
 seen_append : (k : ℕ) (xs ys : List Cell) → seen_letters k (xs ++ ys) ≡ seen_letters k xs ++ seen_letters k ys
-seen_append k [] ys = ap (λ (v : List ℕ). v ++ seen_letters k ys) (sym (seen_none k))
-seen_append k (x ∷ xs) ys = go (seen k x) refl (seen_append k xs ys)
-  where
-    go : (t : Bool) → seen k x ≡ t → seen_letters k (xs ++ ys) ≡ seen_letters k xs ++ seen_letters k ys → seen_letters k (x ∷ (xs ++ ys)) ≡ seen_letters k (x ∷ xs) ++ seen_letters k ys
-    go true h ih =
-        let e₁ = seen_first k x xs h in
-        let e₂ = seen_first k x (xs ++ ys) h in
-        e₂ ∙ (ap (λ (v : List ℕ). x.letter ∷ v) ih ∙ ap (λ (v : List ℕ). v ++ seen_letters k ys) (sym e₁))
-    go false h ih =
-        let e₁ = unseen_first k x xs h in
-        let e₂ = unseen_first k x (xs ++ ys) h in
-        e₂ ∙ (ih ∙ ap (λ (v : List ℕ). v ++ seen_letters k ys) (sym e₁))
+unfolding view letters
+seen_append k [] ys = refl
+seen_append k (x ∷ xs) ys = let ih = seen_append k xs ys in grind arith
 
 -- other cells from place i on, of which the same is seen
 seen_from : (k i : ℕ) (xs zs : List Cell) → seen_letters k zs ≡ seen_letters k (drop i xs) → seen_letters k (take i xs ++ zs) ≡ seen_letters k xs
@@ -36,8 +28,8 @@ new_unseen (l ∷ ls) s c xs =
 -- only what was put in goes at once when it is struck out
 own_put_in : (cs : List Change) (m a : ℕ) → eqb (author_of cs m) (suc a) ≡ true → eqb m 0 ≡ false
 unfolding author_of
-own_put_in cs zero a e = let h = eqb-true 0 (suc a) e in ne_eqb 0 0 (λ z. omega arith)
-own_put_in cs (suc m) a e = ne_eqb (suc m) 0 (omega arith)
+own_put_in cs zero a e = grind arith
+own_put_in cs (suc m) a e = grind arith
 
 strike_seen : (xs : List Cell) (n : ℕ) (cs : List Change) (a c : ℕ) → seen_letters 2 (strike xs n cs a c) ≡ seen_letters 2 xs
 unfolding strike seen
@@ -69,8 +61,4 @@ kept l d (save i n) h = refl
 
 pub as_it_was : AsItWas
 unfolding AsItWas
-as_it_was l d c h = go (eqb (turned l d c) 0)
-  where
-    go : (t : Bool) → seen_letters 2 (pick t (changed l d c) d).now.cells ≡ seen_letters 2 d.now.cells
-    go true = kept l d c h
-    go false = refl
+as_it_was l d c h = pick_both (λ (e : Desk). seen_letters 2 e.now.cells ≡ seen_letters 2 d.now.cells) (eqb (turned l d c) 0) (changed l d c) d (kept l d c h) refl

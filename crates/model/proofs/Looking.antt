@@ -1,6 +1,5 @@
 -- What is seen of a paper in a way to look, and that it is what there is once all open changes are decided that way.
 use Rattle.std.proofs.Common.{◌≡◌, ℕ, zero, suc, ◌≤◌, Bool, true, false, eqb, List, [], ◌∷◌, sym, refl, ap, ◌∙◌, arith}
-use Rattle.std.proofs.lemmas.Bool.{eqb-true, eq-eqb, ne_eqb}
 use Rattle.model.specs.Paper.{pick, Cell, accept, reject, seen, view, letters}
 use Rattle.model.specs.Promise.{decided, all_decided, AsIf}
 use Rattle.model.proofs.Picks.{pick_true, pick_false}
@@ -9,10 +8,6 @@ use Rattle.model.proofs.Marks.{Marks, marks_decided, below_marks}
 -- the letters that are seen in a way to look
 abbrev pub seen_letters : ℕ → List Cell → List ℕ
 seen_letters k xs = letters (view k xs)
-
-pub seen_none : (k : ℕ) → seen_letters k [] ≡ []
-unfolding view letters
-seen_none k = refl
 
 pub seen_first : (k : ℕ) (x : Cell) (xs : List Cell) → seen k x ≡ true → seen_letters k (x ∷ xs) ≡ x.letter ∷ seen_letters k xs
 unfolding view letters
@@ -25,17 +20,8 @@ unseen_first k x xs e = ap letters (pick_false (seen k x) _ _ e)
 -- a cell in place of another of which the same is seen
 pub seen_alike : (k : ℕ) (x y : Cell) (xs ys : List Cell) → seen k y ≡ seen k x → y.letter ≡ x.letter → seen_letters k ys ≡ seen_letters k xs →
     seen_letters k (y ∷ ys) ≡ seen_letters k (x ∷ xs)
-seen_alike k x y xs ys s l e = go (seen k x) refl
-  where
-    go : (t : Bool) → seen k x ≡ t → seen_letters k (y ∷ ys) ≡ seen_letters k (x ∷ xs)
-    go true h =
-        let e₁ = seen_first k x xs h in
-        let e₂ = seen_first k y ys (s ∙ h) in
-        cc
-    go false h =
-        let e₁ = unseen_first k x xs h in
-        let e₂ = unseen_first k y ys (s ∙ h) in
-        cc
+unfolding view letters
+seen_alike k x y xs ys s l e = grind arith
 
 -- the way to look that goes with accepting, and with rejecting
 abbrev pub way : Bool → ℕ
@@ -49,7 +35,7 @@ seen_or_gone k true x y xs ys g s l e = e ∙ sym (unseen_first k x xs (g refl))
 seen_or_gone k false x y xs ys g s l e = seen_alike k x y xs ys s l e
 
 marked : (m c : ℕ) → eqb m (suc c) ≡ true → eqb m 0 ≡ false
-marked m c e = let h = eqb-true m (suc c) e in ne_eqb m 0 (omega arith)
+marked m c e = grind arith
 
 -- what goes was not seen, what is left is seen as before
 pub decided_seen : (a : Bool) (xs : List Cell) (c : ℕ) → seen_letters (way a) (decided a xs c) ≡ seen_letters (way a) xs
@@ -62,8 +48,8 @@ decided_seen false (x ∷ xs) c = seen_or_gone 2 _ x _ xs (reject xs c) (marked 
 -- where no cell has a mark, all is seen in every way
 unmarked_seen : (a : Bool) (x : Cell) → x.put_in ≤ 0 → x.struck ≤ 0 → seen (way a) x ≡ true
 unfolding seen
-unmarked_seen true x p s = eq-eqb _ _ (omega arith)
-unmarked_seen false x p s = eq-eqb _ _ (omega arith)
+unmarked_seen true x p s = grind arith
+unmarked_seen false x p s = grind arith
 
 unmarked : (a : Bool) (xs : List Cell) → Marks (λ m. m ≤ 0) xs → letters xs ≡ seen_letters (way a) xs
 unfolding letters view

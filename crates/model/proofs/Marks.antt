@@ -1,10 +1,10 @@
 -- What holds of all marks of some cells, and what each act on the cells does to it; a change that was decided has no mark left.
-use Rattle.std.proofs.Common.{◌≡◌, ℕ, zero, suc, ◌≤◌, Bool, true, false, ◌||◌, eqb, ◌≢◌, List, [], ◌∷◌, take, drop, refl, arith}
-use Rattle.std.proofs.lemmas.Bool.{eqb-false, ne_eqb, leb-true, le-leb, and_parts, and_from, or_from}
+use Rattle.std.proofs.Common.{◌≡◌, ℕ, zero, suc, ◌≤◌, Bool, true, false, eqb, ◌≢◌, List, [], ◌∷◌, take, drop, refl, arith}
+use Rattle.std.proofs.lemmas.Bool.{eqb-false, ne_eqb, leb-true, and_parts}
 use Rattle.model.specs.Paper.{pick, Cell, accept, reject, touched}
 use Rattle.model.specs.Promise.{decided, below}
 use Rattle.model.specs.Faults.{AllMarksGone}
-use Rattle.model.proofs.Picks.{pick_false}
+use Rattle.model.proofs.Rows.{by_test}
 
 -- every mark of the cells is such
 abbrev pub Marks : (ℕ → Type 0) → List Cell → Type 0
@@ -38,11 +38,7 @@ marks_any (x ∷ xs) = ((tt, tt), marks_any xs)
 -- after change number c is decided: no mark, or the marks but for those of c
 module _ (M N : ℕ → Type 0) (c : ℕ) (none : N 0) (other : (m : ℕ) → m ≢ suc c → M m → N m) where
   mark_cleared : (m : ℕ) → M m → N (pick (eqb m (suc c)) 0 m)
-  mark_cleared m h = go (eqb m (suc c)) refl
-    where
-      go : (t : Bool) → eqb m (suc c) ≡ t → N (pick t 0 m)
-      go true e = none
-      go false e = other m (eqb-false m (suc c) e) h
+  mark_cleared m h = by_test (eqb m (suc c)) 0 m N (λ _. none) (λ e. other m (eqb-false m (suc c) e) h)
 
   pub marks_decided : (a : Bool) (xs : List Cell) → Marks M xs → Marks N (decided a xs c)
   unfolding decided accept reject
@@ -65,15 +61,12 @@ below_marks (x ∷ xs) n h =
 pub marks_below : (xs : List Cell) (n : ℕ) → Marks (λ m. m ≤ n) xs → below xs n ≡ true
 unfolding below
 marks_below [] n h = refl
-marks_below (x ∷ xs) n h = and_from _ _ (and_from _ _ (le-leb _ _ h.0.0) (le-leb _ _ h.0.1)) (marks_below xs n h.1)
+marks_below (x ∷ xs) n h = let ih = marks_below xs n h.1 in grind arith
 
 untouched : (xs : List Cell) (c : ℕ) → Marks (λ m. eqb m (suc c) ≡ false) xs → touched xs c ≡ 0
 unfolding touched
 untouched [] c h = refl
-untouched (x ∷ xs) c h =
-    let e = untouched xs c h.1 in
-    let k : ◌≡◌ {A = ℕ} (pick (eqb x.put_in (suc c) || eqb x.struck (suc c)) 1 0) 0 = pick_false _ _ _ (or_from _ _ h.0.0 h.0.1) in
-    omega arith
+untouched (x ∷ xs) c h = let ih = untouched xs c h.1 in grind arith
 
 pub all_marks_gone : AllMarksGone
 unfolding AllMarksGone

@@ -1,20 +1,16 @@
 -- Any list of distinct changes can be decided in any order: what commutes for two commutes for a list.
-use Rattle.std.proofs.Common.{◌≡◌, ℕ, suc, ◌≤◌, Bool, true, false, not, ◌&&◌, ◌||◌, eqb, ltb, leb, ◌≢◌, List, [], ◌∷◌, length, get_or, set, sym, refl, ap, ◌∙◌, arith}
+use Rattle.std.proofs.Common.{◌≡◌, ℕ, ◌≤◌, Bool, true, false, not, ◌&&◌, ◌||◌, eqb, ltb, ◌≢◌, List, [], ◌∷◌, length, get_or, set, sym, refl, ap, ◌∙◌, arith}
 use Rattle.std.proofs.lemmas.List.{length-set, get_or-set_other, set_comm}
-use Rattle.std.proofs.lemmas.Bool.{eqb-true, eq-eqb, ne_eqb, leb-true, le-leb, and_parts, and_from, not-true, or_parts, eqb-false}
+use Rattle.std.proofs.lemmas.Bool.{and_parts}
 use Rattle.model.specs.Paper.{pick, Cell, Change, Paper, accept, reject}
 use Rattle.model.specs.Calls.{accepts, rejects, Desk, Limits, call_number, good_fields, became, turned_by, with_became, rewritten, writes, fits, after, ran}
 use Rattle.model.specs.Promise.{decided, AnyOrder}
 use Rattle.model.specs.Orders.{Decision, call_of, calls_of, all_done, all_rewritten, decides, distinct, Reordered, same, skip, swap, trans, AnyListOrder}
-use Rattle.model.proofs.Picks.{pick_true, pick_false}
+use Rattle.model.proofs.Picks.{pick_true, pick_false, pick_both}
 use Rattle.model.proofs.Deciding.{any_order}
 
 eqb_swap : (a b : ℕ) → eqb a b ≡ eqb b a
-eqb_swap a b = go (eqb a b) refl
-  where
-    go : (t : Bool) → eqb a b ≡ t → eqb a b ≡ eqb b a
-    go true e = e ∙ sym (eq-eqb b a (sym (eqb-true a b e)))
-    go false e = e ∙ sym (ne_eqb b a (λ k. eqb-false a b e (sym k)))
+eqb_swap a b = grind arith
 
 -- another order has the same changes, and they are distinct if they were
 decides_same : {ds es : List Decision} → Reordered ds es → (c : ℕ) → decides ds c ≡ decides es c
@@ -24,10 +20,7 @@ decides_same (skip {d} r) c = ap (λ t. eqb d.change c || t) (decides_same r c)
 decides_same (swap {d} {e} {ds}) c = go (eqb d.change c) (eqb e.change c) (decides ds c)
   where
     go : (s t u : Bool) → (s || (t || u)) ≡ (t || (s || u))
-    go true true u = refl
-    go true false u = refl
-    go false true u = refl
-    go false false u = refl
+    go s t u = grind arith
 decides_same (trans r q) c = decides_same r c ∙ decides_same q c
 
 distinct_same : {ds es : List Decision} → Reordered ds es → distinct ds ≡ distinct es
@@ -39,21 +32,12 @@ distinct_same (swap {d} {e} {ds}) =
     ∙ go (eqb d.change e.change) (decides ds d.change) (decides ds e.change) (distinct ds)
   where
     go : (b s t u : Bool) → (not (b || s) && (not t && u)) ≡ (not (b || t) && (not s && u))
-    go true true true u = refl
-    go true true false u = refl
-    go true false true u = refl
-    go true false false u = refl
-    go false true true u = refl
-    go false true false u = refl
-    go false false true u = refl
-    go false false false u = refl
+    go b s t u = grind arith
 distinct_same (trans r q) = distinct_same r ∙ distinct_same q
 
 first_two : (d e : Decision) (ds : List Decision) → distinct (d ∷ (e ∷ ds)) ≡ true → d.change ≢ e.change
 unfolding distinct decides
-first_two d e ds h k =
-    let a = (and_parts _ _ h).0 in
-    eqb-false e.change d.change (or_parts _ _ (not-true _ a)).0 (sym k)
+first_two d e ds h k = grind arith
 
 -- decisions one after the other, of which a step says what one does
 abbrev run : {S : Type 0} → (S → Decision → S) → List Decision → S → S
@@ -130,32 +114,20 @@ unfolding on_desk
 made_off l p d e = pick_false (made l p d) _ _ e
 
 -- deciding leaves no more cells than there were, and as many changes
-shorter_pick : (t : Bool) (y : Cell) (ys : List Cell) (n : ℕ) → length ys ≤ n → length (pick t ys (y ∷ ys)) ≤ suc n
-shorter_pick true y ys n h = omega arith
-shorter_pick false y ys n h = omega arith
-
 shorter : (a : Bool) (xs : List Cell) (c : ℕ) → length (decided a xs c) ≤ length xs
 unfolding decided accept reject
 shorter true [] c = omega arith
 shorter false [] c = omega arith
-shorter true (x ∷ xs) c = shorter_pick _ _ (accept xs c) (length xs) (shorter true xs c)
-shorter false (x ∷ xs) c = shorter_pick _ _ (reject xs c) (length xs) (shorter false xs c)
+shorter true (x ∷ xs) c = let ih = shorter true xs c in grind arith
+shorter false (x ∷ xs) c = let ih = shorter false xs c in grind arith
 
 fits_on : (l : Limits) (p : Paper) (d : Decision) → fits l p ≡ true → fits l (on_paper p d) ≡ true
 unfolding on_paper on_cells
-fits_on l p d f =
-    let h = and_parts (leb (length p.cells) l.cells) (leb (length p.changes) l.changes) f in
-    let a = leb-true (length p.cells) l.cells h.0 in
-    let s = shorter d.accepts p.cells d.change in
-    and_from _ _ (le-leb (length (decided d.accepts p.cells d.change)) l.cells (omega arith)) (rw length-set h.1)
+fits_on l p d f = grind (arith, length-set, shorter d.accepts p.cells d.change)
 
 fits_kept : (l : Limits) (p : Paper) (d : Decision) → fits l p ≡ true → fits l (on_desk l p d) ≡ true
 unfolding on_desk
-fits_kept l p d f = go (made l p d)
-  where
-    go : (t : Bool) → fits l (pick t (on_paper p d) p) ≡ true
-    go true = fits_on l p d f
-    go false = f
+fits_kept l p d f = pick_both (λ q. fits l q ≡ true) (made l p d) (on_paper p d) p (fits_on l p d f) f
 
 -- a decision on another change changes nothing of whether this one is made
 made_still : (l : Limits) (p : Paper) (d e : Decision) → d.change ≢ e.change → made l (on_desk l p d) e ≡ made l p e
@@ -170,36 +142,14 @@ made_still l p d e ne = go (made l p d)
     go false = refl
 
 desks_commute : (l : Limits) (p : Paper) (d e : Decision) → fits l p ≡ true → d.change ≢ e.change → on_desk l (on_desk l p d) e ≡ on_desk l (on_desk l p e) d
-desks_commute l p d e f ne = go (made l p d) (made l p e) refl refl
-  where
-    ne' : e.change ≢ d.change
-    ne' = λ k. ne (sym k)
-
-    go : (s t : Bool) → made l p d ≡ s → made l p e ≡ t → on_desk l (on_desk l p d) e ≡ on_desk l (on_desk l p e) d
-    go true true h k =
-        let e₁ = made_on l p d h in
-        let e₂ = made_on l (on_desk l p d) e (made_still l p d e ne ∙ k) in
-        let e₃ = made_on l p e k in
-        let e₄ = made_on l (on_desk l p e) d (made_still l p e d ne' ∙ h) in
-        let e₅ = papers_commute p d e tt ne in
-        cc
-    go true false h k =
-        let e₁ = made_off l (on_desk l p d) e (made_still l p d e ne ∙ k) in
-        let e₂ = made_off l p e k in
-        cc
-    go false t h k =
-        let e₁ = made_off l p d h in
-        let e₂ = made_off l (on_desk l p e) d (made_still l p e d ne' ∙ h) in
-        cc
+desks_commute l p d e f ne =
+    let other : e.change ≢ d.change = λ k. ne (sym k) in
+    grind (arith, made_on, made_off, made_still l p d e ne, made_still l p e d other, papers_commute p d e tt ne)
 
 -- the checks of a call that decides, in their order: g it can be done, i the change is there, o it is open, f the paper after it fits
 all_checks : (g i o f : Bool) (x y : Desk) → f ≡ true →
     (pick (eqb (pick (g && true) (pick (eqb (pick i (pick o 0 6) 5) 0) (pick f 0 9) (pick i (pick o 0 6) 5)) 2) 0) x y).now ≡ pick (g && (i && o)) x.now y.now
-all_checks g i o false x y h = let z : ◌≡◌ {A = ℕ} 0 1 = cc in absurd (omega arith)
-all_checks true true true true x y h = refl
-all_checks true true false true x y h = refl
-all_checks true false o true x y h = refl
-all_checks false i o true x y h = refl
+all_checks g i o f x y h = grind arith
 
 after_is : (l : Limits) (b : Desk) (d : Decision) → fits l b.now ≡ true → (after l b (call_of d)).now ≡ on_desk l b.now d
 unfolding on_desk on_paper on_cells decided rewritten writes call_number good_fields turned_by

@@ -1,19 +1,12 @@
 -- Nothing comes from nowhere: what holds of each letter that is put in holds of each letter of the paper, and of all papers that can be had back.
 -- Assumes nothing.
-use Rattle.std.proofs.Common.{◌≡◌, ℕ, zero, suc, ◌-◌, Bool, true, false, eqb, leb, List, [], ◌∷◌, ◌++◌, refl, ap, subst}
+use Rattle.std.proofs.Common.{◌≡◌, ℕ, zero, suc, Bool, true, false, List, [], ◌∷◌, ◌++◌, refl, ap, subst}
 use Rattle.std.specs.List.{ContainsAt, AllByRecursion}
-use Rattle.std.proofs.lemmas.Bool.{eqb-true}
 use Rattle.std.proofs.ByRecursion.{All-append, All-take, All-drop, All-weaker, all_has_itself}
 use Rattle.model.specs.Paper.{pick, Cell, Change, Paper, new_cells, strike, accept, reject, styled}
-use Rattle.model.specs.Calls.{Call, put, strikes, accepts, rejects, styles, undo, redo, show, find, count, change, save, Before, Desk, Limits, rewritten, how_much, writes, remembered, undone, redone, moved, changed, turned, after, ran, new_desk}
+use Rattle.model.specs.Calls.{Call, put, strikes, accepts, rejects, styles, undo, redo, show, find, count, change, save, Desk, Limits, rewritten, turned, after, ran, new_desk}
 use Rattle.model.specs.Origin.{PutBy, NothingFromNowhere}
-use Rattle.model.proofs.Rows.{by_test}
-
-remembered_all : (Q : Before → Type 0) (u : ℕ) (bs : List Before) → AllByRecursion Q bs → AllByRecursion Q (remembered u bs)
-unfolding remembered
-remembered_all Q u [] h = tt
-remembered_all Q u (b ∷ bs) h =
-    by_test (leb (suc b.much) u) (b ∷ remembered (u - suc b.much) bs) [] (AllByRecursion Q) (λ _. (h.0, remembered_all Q (u - suc b.much) bs h.1)) (λ _. tt)
+use Rattle.model.proofs.Desks.{OnDesk, after_all}
 
 -- an element that goes by a test, and else stays
 all_or_less : {X : Type 0} (Q : X → Type 0) (b : Bool) (y : X) (ys : List X) → Q y → AllByRecursion Q ys → AllByRecursion Q (pick b ys (y ∷ ys))
@@ -68,61 +61,18 @@ module _ (P : ℕ → Type 0) where
   rewritten_all p (change c) f h = h
   rewritten_all p (save i n) f h = h
 
-  abbrev OfBefore : Before → Type 0
-  OfBefore b = AllByRecursion Of b.paper.cells
-
-  record OfDesk (d : Desk) : Type 0 where
-    now : AllByRecursion Of d.now.cells
-    past : AllByRecursion OfBefore d.past
-    future : AllByRecursion OfBefore d.future
-
-  undone_all : (d : Desk) (bs : List Before) → OfDesk d → AllByRecursion OfBefore bs → OfDesk (undone d bs)
-  unfolding undone
-  undone_all d [] k h = k
-  undone_all d (b ∷ bs) k h = record { now = h.0; past = h.1; future = (k.now, k.future) }
-
-  redone_all : (d : Desk) (bs : List Before) → OfDesk d → AllByRecursion OfBefore bs → OfDesk (redone d bs)
-  unfolding redone
-  redone_all d [] k h = k
-  redone_all d (b ∷ bs) k h = record { now = h.0; past = (k.now, k.past); future = h.1 }
-
-  moved_all : (l : Limits) (d : Desk) (c : Call) → OfDesk d → OfDesk (moved l d c)
-  unfolding moved
-  moved_all l d undo k = undone_all d d.past k k.past
-  moved_all l d redo k = redone_all d d.future k k.future
-  moved_all l d (put a i s ls) k = k
-  moved_all l d (strikes a i n) k = k
-  moved_all l d (accepts c) k = k
-  moved_all l d (rejects c) k = k
-  moved_all l d (styles i n s) k = k
-  moved_all l d (show m w r n) k = k
-  moved_all l d (find m i ls) k = k
-  moved_all l d (count m) k = k
-  moved_all l d (change c) k = k
-  moved_all l d (save i n) k = k
-
-  after_all : (l : Limits) (d : Desk) (c : Call) → ((a i s : ℕ) (ls : List ℕ) → c ≡ put a i s ls → turned l d c ≡ 0 → AllByRecursion P ls) → OfDesk d → OfDesk (after l d c)
-  after_all l d c f k =
-      by_test (eqb (turned l d c) 0) (changed l d c) d OfDesk
-      (λ t.
-      by_test (writes c) _ (moved l d c) OfDesk
-      (λ _.
-      record {
-        now = rewritten_all d.now c (λ a i s ls e. f a i s ls e (eqb-true _ _ t)) k.now;
-        past = remembered_all OfBefore l.undos (record { paper = d.now; much = how_much d.now c } ∷ d.past) (k.now, k.past);
-        future = tt;
-      })
-      (λ _. moved_all l d c k))
-      (λ _. k)
+  abbrev OfPaper : Paper → Type 0
+  OfPaper p = AllByRecursion Of p.cells
 
   ran_all : (l : Limits) (d : Desk) (cs : List Call) →
       ((before later : List Call) (a i s : ℕ) (ls : List ℕ) → cs ≡ before ++ (put a i s ls ∷ later) → turned l (ran l d before) (put a i s ls) ≡ 0 → AllByRecursion P ls) →
-      OfDesk d → OfDesk (ran l d cs)
+      OnDesk OfPaper d → OnDesk OfPaper (ran l d cs)
   unfolding ran
   ran_all l d [] f k = k
   ran_all l d (c ∷ cs) f k =
       ran_all l (after l d c) cs (λ before later a i s ls e t. f (c ∷ before) later a i s ls (ap (λ (r : List Call). c ∷ r) e) t)
-      (after_all l d c (λ a i s ls e t. f [] cs a i s ls (ap (λ (r : Call). r ∷ cs) e) (subst (λ (r : Call). turned l d r ≡ 0) e t)) k)
+      (after_all OfPaper l d c
+      (λ t. rewritten_all d.now c (λ a i s ls e. f [] cs a i s ls (ap (λ (r : Call). r ∷ cs) e) (subst (λ (r : Call). turned l d r ≡ 0) e t)) k.now) k)
 
 pub nothing_from_nowhere : NothingFromNowhere
 unfolding NothingFromNowhere

@@ -1,5 +1,5 @@
 -- A change that is made and then rejected leaves the cells as they were.
-use Rattle.std.proofs.Common.{◌≡◌, ℕ, zero, suc, ◌≤◌, Bool, true, false, eqb, List, [], ◌∷◌, ◌++◌, length, take, drop, set, refl, ap, ◌∙◌, arith}
+use Rattle.std.proofs.Common.{◌≡◌, ℕ, zero, suc, ◌≤◌, true, eqb, List, [], ◌∷◌, ◌++◌, length, take, drop, set, refl, ap, ◌∙◌, arith}
 use Rattle.std.proofs.lemmas.List.{take-append-drop, set_at, get_or_at}
 use Rattle.std.proofs.lemmas.Bool.{eq-eqb, ne_eqb, and_parts, not-true}
 use Rattle.model.specs.Paper.{pick, Cell, Change, Paper, new_cells, strike, reject}
@@ -14,12 +14,7 @@ unmarked_by x c = record { letter = x.letter; style = x.style; put_in = x.put_in
 reject_append : (xs ys : List Cell) (c : ℕ) → reject (xs ++ ys) c ≡ reject xs c ++ reject ys c
 unfolding reject
 reject_append [] ys c = refl
-reject_append (x ∷ xs) ys c = go (eqb x.put_in (suc c)) (reject_append xs ys c)
-  where
-    go : (t : Bool) → reject (xs ++ ys) c ≡ reject xs c ++ reject ys c →
-        pick t (reject (xs ++ ys) c) (unmarked_by x c ∷ reject (xs ++ ys) c) ≡ pick t (reject xs c) (unmarked_by x c ∷ reject xs c) ++ reject ys c
-    go true e = e
-    go false e = ap (λ (v : List Cell). unmarked_by x c ∷ v) e
+reject_append (x ∷ xs) ys c = let ih = reject_append xs ys c in grind arith
 
 -- a cell that stays, and is the same with its strike
 reject_first : (x y : Cell) (ys : List Cell) (c : ℕ) → y.put_in ≤ c → unmarked_by y c ≡ x → reject (y ∷ ys) c ≡ x ∷ reject ys c
@@ -40,10 +35,7 @@ reject_unmarked (x ∷ xs) c h =
 
 -- the mark of change number c goes again from what it struck first, and only from that
 first_strike : (m c : ℕ) → m ≤ c → pick (eqb (pick (eqb m 0) (suc c) m) (suc c)) 0 (pick (eqb m 0) (suc c) m) ≡ m
-first_strike zero c h = pick_true _ _ _ (eq-eqb (suc c) (suc c) refl)
-first_strike (suc m) c h =
-    let e : pick (eqb (suc m) 0) (suc c) (suc m) ≡ suc m = pick_false _ _ _ (ne_eqb (suc m) 0 (omega arith)) in
-    ap (λ v. pick (eqb v (suc c)) 0 v) e ∙ pick_false _ _ _ (ne_eqb (suc m) (suc c) (omega arith))
+first_strike m c h = grind arith
 
 strike_reject : (xs : List Cell) (n : ℕ) (cs : List Change) (a c : ℕ) → Marks (λ m. m ≤ c) xs → none_by (take n xs) cs a ≡ true → reject (strike xs n cs a c) c ≡ xs
 unfolding strike none_by reject

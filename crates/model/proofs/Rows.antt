@@ -1,5 +1,5 @@
 -- Rows: where a row is cut, that the letters stay, and how the rows follow one another. Assumes nothing.
-use Rattle.std.proofs.Common.{◌≡◌, ℕ, zero, suc, ◌+◌, ◌-◌, ◌<◌, ◌≤◌, Bool, true, false, ◌||◌, eqb, leb, ◌⊎◌, ◌↔◌, List, [], ◌∷◌, ◌++◌, length, get_or, take, drop, sym, refl, ap, ◌∙◌, subst, inl, inr, arith}
+use Rattle.std.proofs.Common.{◌≡◌, ℕ, zero, suc, ◌+◌, ◌-◌, ◌<◌, ◌≤◌, Bool, true, false, eqb, leb, ◌⊎◌, ◌↔◌, List, [], ◌∷◌, ◌++◌, length, get_or, take, drop, sym, refl, ap, ◌∙◌, subst, inl, inr, arith}
 use lib.Seq.{drop-nil}
 use Rattle.std.proofs.lemmas.Bool.{leb-true, leb-false, eqb-true, eqb-false}
 use Rattle.std.proofs.lemmas.List.{length-take, length-drop, drop-drop, take-append-drop}
@@ -31,10 +31,8 @@ no_end : (xs : List Cell) (n i k : ℕ) → first_end xs n i ≡ 0 → k < n →
 unfolding first_end letters
 no_end [] n i k e h g = omega arith
 no_end (x ∷ xs) zero i k e h g = omega arith
-no_end (x ∷ xs) (suc n) i zero e h g =
-    by_test (eqb x.letter 10) (suc i) (first_end xs n (suc i)) (λ v. v ≡ 0 → ⊥) (λ _ e. omega arith) (λ t _. eqb-false _ _ t g) e
-no_end (x ∷ xs) (suc n) i (suc k) e h g =
-    by_test (eqb x.letter 10) (suc i) (first_end xs n (suc i)) (λ v. v ≡ 0 → ⊥) (λ _ e. omega arith) (λ _ e. no_end xs n (suc i) k e (omega arith) g) e
+no_end (x ∷ xs) (suc n) i zero e h g = grind arith
+no_end (x ∷ xs) (suc n) i (suc k) e h g = let ih = no_end xs n (suc i) k in grind arith
 
 -- Where the last space is, and that there is none.
 NoSpace : List Cell → ℕ → ℕ → Type 0
@@ -132,10 +130,7 @@ letters_append (x ∷ xs) ys = ap (λ (r : List ℕ). x.letter ∷ r) (letters_a
 only_solid_append : (xs ys : List ℕ) → only_solid (xs ++ ys) ≡ only_solid xs ++ only_solid ys
 unfolding only_solid
 only_solid_append [] ys = refl
-only_solid_append (x ∷ xs) ys =
-    by_test (eqb x 10 || eqb x 32) (only_solid xs) (x ∷ only_solid xs) (λ r. pick (eqb x 10 || eqb x 32) (only_solid (xs ++ ys)) (x ∷ only_solid (xs ++ ys)) ≡ r ++ only_solid ys)
-    (λ t. rw t (only_solid_append xs ys))
-    (λ t. rw t (ap (λ (r : List ℕ). x ∷ r) (only_solid_append xs ys)))
+only_solid_append (x ∷ xs) ys = let ih = only_solid_append xs ys in grind arith
 
 letter_at : (xs : List Cell) (s : ℕ) → s < length xs → letters (take 1 (drop s xs)) ≡ get_or (letters xs) s 0 ∷ []
 unfolding letters
@@ -209,12 +204,6 @@ rows_step w (x ∷ xs) h k =
     let e = length-drop (step w (x ∷ xs)) (x ∷ xs) in
     let f = step_moves w (x ∷ xs) h k in
     ap (λ (r : List (List Cell)). take (cut w (x ∷ xs)).long (x ∷ xs) ∷ r) (rows_enough (length xs) w (drop (step w (x ∷ xs)) (x ∷ xs)) h (omega arith))
-
--- The rows after the first n are the rows of what is left after n rows.
-pub rest_none : (w n : ℕ) → rest w n [] ≡ []
-unfolding rest
-rest_none w zero = refl
-rest_none w (suc n) = rw (rest_none w n) (drop-nil (step w []))
 
 rows_next : (w : ℕ) (xs : List Cell) → 0 < w → drop 1 (rows w xs) ≡ rows w (drop (step w xs) xs)
 rows_next w [] h = rw (drop-nil (step w []), rows_none w)

@@ -1,6 +1,6 @@
 -- One step back brings the paper back, one step forward again brings the undone one back; a call that is turned away leaves the desk.
-use Rattle.std.proofs.Common.{◌≡◌, ℕ, suc, ◌-◌, ◌<◌, Bool, true, false, eqb, leb, List, [], ◌∷◌, length, refl, ap, ◌∙◌, subst, arith}
-use Rattle.std.proofs.lemmas.Bool.{eqb-false, eq-eqb, ne_eqb, and_from}
+use Rattle.std.proofs.Common.{◌≡◌, ℕ, suc, ◌-◌, ◌<◌, true, eqb, List, [], ◌∷◌, length, refl, ap, ◌∙◌, subst, arith}
+use Rattle.std.proofs.lemmas.Bool.{eq-eqb, ne_eqb, and_from}
 use Rattle.model.specs.Paper.{pick}
 use Rattle.model.specs.Calls.{Call, undo, redo, Desk, Before, Limits, call_number, good_fields, good_call, writes, rewritten, how_much, remembered, undone, redone, moved, changed, fits, turned_by, turned, after, refused, told, place, answers}
 use Rattle.model.specs.Promise.{Undone, TurnedAway}
@@ -13,13 +13,7 @@ free l d c g b f = pick_true _ _ _ g ∙ (pick_true _ _ _ (eq-eqb (turned_by d c
 
 -- the paper after a call that is not turned away fits
 pub fits_after : (l : Limits) (d : Desk) (c : Call) → turned l d c ≡ 0 → fits l (rewritten d.now c) ≡ true
-fits_after l d c e = go (good_call l c) (eqb (turned_by d c) 0) (fits l (rewritten d.now c)) refl e
-  where
-    go : (g b f : Bool) → eqb (turned_by d c) 0 ≡ b → pick g (pick b (pick f 0 9) (turned_by d c)) 2 ≡ 0 → f ≡ true
-    go true true true h z = refl
-    go true true false h z = absurd (omega arith)
-    go true false f h z = absurd (eqb-false (turned_by d c) 0 h z)
-    go false b f h z = absurd (omega arith)
+fits_after l d c e = grind arith
 
 done : (l : Limits) (d : Desk) (c : Call) → turned l d c ≡ 0 → after l d c ≡ changed l d c
 done l d c e = pick_true _ _ _ (eq-eqb (turned l d c) 0 e)
@@ -37,11 +31,7 @@ one_forward l d b bs can f e =
 -- what is remembered begins with the latest, if anything is
 latest : (u : ℕ) (b : Before) (bs : List Before) → 0 < length (remembered u (b ∷ bs)) → remembered u (b ∷ bs) ≡ b ∷ remembered (u - suc b.much) bs
 unfolding remembered
-latest u b bs h = go (leb (suc b.much) u) h
-  where
-    go : (t : Bool) → 0 < length (pick t (b ∷ remembered (u - suc b.much) bs) []) → pick t (b ∷ remembered (u - suc b.much) bs) [] ≡ b ∷ remembered (u - suc b.much) bs
-    go true k = refl
-    go false k = absurd (omega arith)
+latest u b bs h = grind arith
 
 -- one step back and one forward, from a desk that remembers b
 back_forward : (l : Limits) (d : Desk) (b : Before) (bs : List Before) → l.calls_can 5 ≡ true → l.calls_can 6 ≡ true → fits l d.now ≡ true → fits l b.paper ≡ true →

@@ -1,14 +1,15 @@
 -- What holds of the empty paper and stays with every call: it fits the limits, and every mark is of an open change.
-use Rattle.std.proofs.Common.{◌≡◌, ℕ, zero, suc, ◌-◌, ◌<◌, ◌≤◌, Bool, true, false, eqb, leb, ◌≢◌, ◌⊎◌, List, [], ◌∷◌, ◌++◌, length, get_or, take, set, refl, ap, ◌∙◌, inl, inr, arith}
+use Rattle.std.proofs.Common.{◌≡◌, ℕ, zero, suc, ◌<◌, ◌≤◌, true, false, eqb, ◌≢◌, List, [], ◌∷◌, ◌++◌, length, take, set, refl, ap, ◌∙◌, arith}
 use Rattle.std.proofs.lemmas.List.{get_or_append_left, get_or_at, get_or-set_other, get_or_past}
-use Rattle.std.proofs.lemmas.Bool.{eqb-true, le-leb, and_from, cases_lt}
-use Rattle.model.specs.Paper.{pick, Cell, Change, Paper, new_cells, strike, styled}
-use Rattle.model.specs.Calls.{Call, put, strikes, accepts, rejects, styles, undo, redo, show, find, count, change, save, Before, Desk, Limits, rewritten, writes, remembered, undone, redone, moved, changed, fits, turned, after, ran, new_desk}
+use Rattle.std.proofs.lemmas.Bool.{le-leb, and_from}
+use Rattle.model.specs.Paper.{Cell, Change, Paper, new_cells, strike, styled}
+use Rattle.model.specs.Calls.{Call, put, strikes, accepts, rejects, styles, undo, redo, show, find, count, change, save, Desk, Limits, rewritten, fits, after, ran, new_desk}
 use Rattle.model.specs.Promise.{decided}
 use Rattle.model.specs.Valid.{open_mark, open_marks, ValidPapers}
 use Rattle.model.proofs.Picks.{pick_both}
 use Rattle.model.proofs.Marks.{Marks, marks_take, marks_drop, marks_pick, marks_map, marks_decided, marks_below}
 use Rattle.model.proofs.Undoing.{fits_after}
+use Rattle.model.proofs.Desks.{OnDesk, after_all}
 
 -- what every act does to the marks
 module _ (M : ℕ → Type 0) where
@@ -49,15 +50,7 @@ open_none cs = refl
 open_below : (cs : List Change) (m : ℕ) → Open cs m → m ≤ length cs
 unfolding open_mark
 open_below cs zero h = omega arith
-open_below cs (suc c) h = go (cases_lt c (length cs))
-  where
-    go : (c < length cs) ⊎ (length cs ≤ c) → suc c ≤ length cs
-    go (inl k) = k
-    go (inr k) =
-        let z : Change = record { author = 0; became = 3 } in
-        let e : (get_or cs c z).became ≡ 0 = eqb-true _ _ h in
-        let past : (get_or cs c z).became ≡ 3 = ap (λ (v : Change). v.became) (get_or_past cs c z k) in
-        absurd (omega arith)
+open_below cs (suc c) h = grind (arith, get_or_past cs c (record { author = 0; became = 3 }))
 
 open_more : (cs : List Change) (r : Change) (m : ℕ) → Open cs m → Open (cs ++ (r ∷ [])) m
 unfolding open_mark
@@ -97,72 +90,26 @@ still_open p (count k) h = h
 still_open p (change c) h = h
 still_open p (save i n) h = h
 
--- a paper, the papers that can be had back, and all papers of a desk
+-- a paper that fits and has no mark but of open changes
 abbrev Good : Limits → Paper → Type 0
 Good l p = (fits l p ≡ true) × AllOpen p
 
-abbrev AllGood : Limits → List Before → Type 0
-AllGood l [] = Unit {0}
-AllGood l (b ∷ bs) = Good l b.paper × AllGood l bs
-
-abbrev GoodDesk : Limits → Desk → Type 0
-GoodDesk l d = Good l d.now × AllGood l d.past × AllGood l d.future
-
-good_remembered : (l : Limits) (u : ℕ) (bs : List Before) → AllGood l bs → AllGood l (remembered u bs)
-unfolding remembered
-good_remembered l u [] h = tt
-good_remembered l u (b ∷ bs) h = pick_both (AllGood l) (leb (suc b.much) u) (b ∷ remembered (u - suc b.much) bs) [] (h.0, good_remembered l (u - suc b.much) bs h.1) tt
-
-good_undone : (l : Limits) (d : Desk) (bs : List Before) → GoodDesk l d → AllGood l bs → GoodDesk l (undone d bs)
-unfolding undone
-good_undone l d [] g h = g
-good_undone l d (b ∷ bs) g h = (h.0, h.1, (g.0, g.2))
-
-good_redone : (l : Limits) (d : Desk) (bs : List Before) → GoodDesk l d → AllGood l bs → GoodDesk l (redone d bs)
-unfolding redone
-good_redone l d [] g h = g
-good_redone l d (b ∷ bs) g h = (h.0, (g.0, g.1), h.1)
-
-good_moved : (l : Limits) (d : Desk) (c : Call) → GoodDesk l d → GoodDesk l (moved l d c)
-unfolding moved
-good_moved l d undo g = good_undone l d d.past g g.1
-good_moved l d redo g = good_redone l d d.future g g.2
-good_moved l d (put a i s ls) g = g
-good_moved l d (strikes a i n) g = g
-good_moved l d (accepts c) g = g
-good_moved l d (rejects c) g = g
-good_moved l d (styles i n s) g = g
-good_moved l d (show k w r n) g = g
-good_moved l d (find k i ls) g = g
-good_moved l d (count k) g = g
-good_moved l d (change c) g = g
-good_moved l d (save i n) g = g
-
-good_after : (l : Limits) (d : Desk) (c : Call) → GoodDesk l d → GoodDesk l (after l d c)
-good_after l d c g = go (eqb (turned l d c) 0) refl
-  where
-    go : (t : Bool) → eqb (turned l d c) 0 ≡ t → GoodDesk l (pick t (changed l d c) d)
-    go true e =
-        let f = fits_after l d c (eqb-true (turned l d c) 0 e) in
-        pick_both (GoodDesk l) (writes c) _ _ ((f, still_open d.now c g.0.1), good_remembered l l.undos (_ ∷ d.past) (g.0, g.1), tt) (good_moved l d c g)
-    go false e = g
-
-good_ran : (l : Limits) (cs : List Call) (d : Desk) → GoodDesk l d → GoodDesk l (ran l d cs)
+good_ran : (l : Limits) (cs : List Call) (d : Desk) → OnDesk (Good l) d → OnDesk (Good l) (ran l d cs)
 unfolding ran
 good_ran l [] d g = g
-good_ran l (c ∷ cs) d g = good_ran l cs (after l d c) (good_after l d c g)
+good_ran l (c ∷ cs) d g = good_ran l cs (after l d c) (after_all (Good l) l d c (λ t. (fits_after l d c t, still_open d.now c g.now.1)) g)
 
 all_open : (xs : List Cell) (cs : List Change) → Marks (Open cs) xs → open_marks xs cs ≡ true
 unfolding open_marks
 all_open [] cs h = refl
-all_open (x ∷ xs) cs h = and_from _ _ (and_from _ _ h.0.0 h.0.1) (all_open xs cs h.1)
+all_open (x ∷ xs) cs h = let ih = all_open xs cs h.1 in grind arith
 
 pub valid_papers : ValidPapers
 unfolding ValidPapers
 valid_papers l cs =
     let p : Paper = (ran l new_desk cs).now in
-    let g = good_ran l cs new_desk ((and_from _ _ (le-leb 0 l.cells (omega arith)) (le-leb 0 l.changes (omega arith)), tt), tt, tt) in (
-      g.0.0,
-      marks_below p.cells (length p.changes) (marks_map (Open p.changes) (λ m. m ≤ length p.changes) (open_below p.changes) p.cells g.0.1),
-      all_open p.cells p.changes g.0.1,
+    let g = good_ran l cs new_desk (record { now = (and_from _ _ (le-leb 0 l.cells (omega arith)) (le-leb 0 l.changes (omega arith)), tt); past = tt; future = tt }) in (
+      g.now.0,
+      marks_below p.cells (length p.changes) (marks_map (Open p.changes) (λ m. m ≤ length p.changes) (open_below p.changes) p.cells g.now.1),
+      all_open p.cells p.changes g.now.1,
     )

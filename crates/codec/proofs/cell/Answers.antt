@@ -4,9 +4,9 @@ use Rattle.codec.specs.Bytes.{word_bytes, words_bytes, cells_bytes}
 use Rattle.codec.proofs.Writes.{over_step}
 use Rattle.codec.proofs.cell.Goals as goal
 
-pub returns : goal.returns
+pub returns-clause-bytes : goal.returns-clause-bytes
 unfolding cells_bytes words_bytes word_bytes
-returns c =
+returns-clause-bytes c =
     let out = c.args.out.now in
     let a = word_bytes c.args.x.letter in
     let b = word_bytes c.args.x.style in
@@ -14,4 +14,4 @@ returns c =
     let s = word_bytes c.args.x.struck in
     let two = over_step out c.args.at a b c.number-at.ensures.bytes (omega arith) (omega arith) c.number-at-2.ensures.bytes in
     let three = over_step out c.args.at (a ++ b) p two (omega arith) (omega arith) c.number-at-3.ensures.bytes in
-    record { bytes = over_step out c.args.at ((a ++ b) ++ p) s three (omega arith) (omega arith) c.number.ensures.bytes; next = omega arith }
+    over_step out c.args.at ((a ++ b) ++ p) s three (omega arith) (omega arith) c.number.ensures.bytes
