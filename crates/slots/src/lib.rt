@@ -35,6 +35,15 @@ pub fn write(c: &mut [u32], a: usize, cell: Cell)
     c[at + 3] = cell.struck;
 }
 
+// The words of the `n` cells from number `a` on.
+pub fn part(c: &[u32], a: usize, n: usize) -> &[u32]
+    requires { 4 * (a + n) ≤ length c.now }
+    ensures cells { all_cells result.now ≡ cells_at c.now a n }
+    ensures long { length result.now ≡ 4 * n }
+{
+    &c[4 * a..4 * (a + n)]
+}
+
 // Copies `n` cells from number `from` on to number `to` on. The two runs may overlap.
 pub fn copy(c: &mut [u32], from: usize, to: usize, n: usize)
     requires source { 4 * (from + n) ≤ length c.old }
