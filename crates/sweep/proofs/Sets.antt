@@ -22,7 +22,7 @@ pick_has p i m n true f g = f
 pick_has p i m n false f g = g
 
 changed_marks : (a : Action) (p : List ℕ) (i : ℕ) (x : Cell) → Noted a p i → Marks p i x → Marks p i (changed a x)
-changed_marks (Strike a c) p i x h m = record { put_in = m.put_in; struck = pick_has p i (suc c) x.struck (eqb x.struck 0) h m.struck }
+changed_marks (Strike a n) p i x h m = record { put_in = m.put_in; struck = pick_has p i n x.struck (eqb x.struck 0) h m.struck }
 changed_marks (Accept c) p i x h m = record { put_in = pick_has p i 0 x.put_in (eqb x.put_in (suc c)) (λ l. absurd (omega arith)) m.put_in; struck = m.struck }
 changed_marks (Reject c) p i x h m = record { put_in = m.put_in; struck = pick_has p i 0 x.struck (eqb x.struck (suc c)) (λ l. absurd (omega arith)) m.struck }
 changed_marks (Style s) p i x h m = record { put_in = m.put_in; struck = m.struck }

@@ -13,4 +13,4 @@ loop-k-preserved c =
     let inv = c.loop-k.invariant in
     let e = c.touched_piece-count.ensures in
     let few = e.few in
-    (touched_next c.args.c.now c.args.p.now c.loop-k.k c.args.change c.loop-k.count c.touched_piece-count.result e.count inv.0, omega arith)
+    (touched_next c.args.text.now.cells.now c.args.text.now.tables.now c.loop-k.k c.args.change c.loop-k.count c.touched_piece-count.result e.count inv.0, omega arith)
