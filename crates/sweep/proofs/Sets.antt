@@ -12,10 +12,6 @@ use Rattle.sweep.specs.declared.Action.{Action}
 use Rattle.sweep.specs.declared.Action.TheVariants.{Strike, Accept, Reject, Style}
 use Rattle.sweep.specs.Sweep.{goes, changed, fate, swept, swept_run, Noted}
 
--- the tables reach past the tree
-pub past_tree : (p : List ℕ) (s : ℕ) → Order p s → 6144 ≤ length p
-past_tree p s o = let w = o.words in omega arith
-
 -- a set has the one of two marks that is picked
 pick_has : (p : List ℕ) (i m n : ℕ) (t : Bool) → (0 < m → Has p i m) → (0 < n → Has p i n) → 0 < pick t m n → Has p i (pick t m n)
 pick_has p i m n true f g = f
@@ -64,6 +60,3 @@ reject_lacks c cs (x ∷ xs) all =
 pub beside_piece : (c p q : List ℕ) (s k : ℕ) → Order p s → Beside p q → k < s → piece c q k ≡ piece c p k
 unfolding piece
 beside_piece c p q s k o h l = let most = o.most in rw (h.below k (omega arith), h.below (4096 + k) (omega arith))
-
-pub true_false : true ≡ false → ⊥
-true_false e = let z : ◌≡◌ {A = ℕ} 1 0 = ap (λ t. pick {A = ℕ} t 1 0) e in omega arith

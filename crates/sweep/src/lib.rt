@@ -134,37 +134,28 @@ fn sweep_cells(c: &mut [u32], row: &Row, at: usize, n: usize, action: Action) ->
     stay
 }
 
-// Sweeps `n` cells in the slot of a piece, from the spot on, and moves those behind them down. Returns how many of the `n` are left.
+// Sweeps the `n` cells from number `at` on, and moves the `behind` cells that follow them down. Returns how many of the `n` are left.
 fn sweep_slot(
     c: &mut [u32],
-    p: &[u32],
-    s: usize,
     row: &Row,
-    spot: Spot,
+    at: usize,
     n: usize,
+    behind: usize,
     action: Action,
 ) -> usize
-    requires order { Order p.now s }
-    requires room { 4096 * s ≤ length c.old }
-    requires here { spot.piece < s }
-    requires within { spot.offset + n ≤ used p.now spot.piece }
-    ensures filled { Filled c.old c.new p.now spot.piece (swept_run action (changes_in row.now) (piece c.old p.now spot.piece) spot.offset n) }
-    ensures left { result ≡ length (swept action (changes_in row.now) (take n (drop spot.offset (piece c.old p.now spot.piece)))) }
+    requires { 4 * (at + n + behind) ≤ length c.old }
     ensures few { result ≤ n }
+    ensures cells { cells_at c.new at result ≡ swept action (changes_in row.now) (cells_at c.old at n) }
+    ensures moved { cells_at c.new (at + result) behind ≡ cells_at c.old (at + n) behind }
+    ensures kept { Kept c.old c.new at (n + behind) }
 {
-    let at = pieces::number_of(p, s, spot.piece, spot.offset);
     let left = sweep_cells(c, row, at, n, action);
-    slots::copy(
-        c,
-        at + n,
-        at + left,
-        pieces::used(p, spot.piece) - (spot.offset + n),
-    );
+    slots::copy(c, at + n, at + left, behind);
     left
 }
 
 // Piece `k` gets the length `n`, and its set of marks the one that the action writes.
-fn resize(p: &mut [u32], s: usize, k: usize, n: usize, action: Action)
+fn shrink(p: &mut [u32], s: usize, k: usize, n: usize, action: Action)
     requires order { Order p.old s }
     requires here { k < s }
     requires small { n ≤ 1024 }
@@ -202,9 +193,10 @@ fn sweep_piece(
     ensures left { result ≡ length (swept action (changes_in row.now) (take n (drop spot.offset (piece c.old p.old spot.piece)))) }
     ensures few { result ≤ n }
 {
-    let left = sweep_slot(c, p, s, row, spot, n, action);
-    let has = pieces::used(p, spot.piece) - n + left;
-    resize(p, s, spot.piece, has, action);
+    let at = pieces::number_of(p, s, spot.piece, spot.offset);
+    let has = pieces::used(p, spot.piece);
+    let left = sweep_slot(c, row, at, n, has - (spot.offset + n), action);
+    shrink(p, s, spot.piece, has - n + left, action);
     left
 }
 

@@ -1,19 +1,23 @@
-use Rattle.changes.specs.Rows.{changes_in}
-use Rattle.sweep.proofs.Steps.{left_here, swept_here}
+use Rattle.std.proofs.Common.{◌+◌, ◌∙◌, arith}
+use Rattle.slots.proofs.Words.{kept_cells_below, kept_cells_above, kept_twice, kept_wider}
 use Rattle.sweep.proofs.sweep_slot.Goals as goal
 
 pub returns : goal.returns
 returns c =
-    let k = c.args.spot.piece in
-    let o = c.args.spot.offset in
-    let small = c.requires.order.small k c.requires.here in
+    let old = c.args.c.now in
+    let swept = c.sweep_cells-left.new.c in
+    let new = c.copy.new.c in
+    let at = c.args.at in
+    let n = c.args.n in
+    let behind = c.args.behind in
+    let r = c.sweep_cells-left.result in
     let e = c.sweep_cells-left.ensures in
-    let cs = changes_in c.args.row.now in
+    let f = c.copy.ensures in
+    let few = e.few in
     record {
-      filled = swept_here c.args.c.now c.sweep_cells-left.new.c c.copy.new.c c.args.p.now k o c.args.n c.number_of-at.result
-          c.sweep_cells-left.result c.args.action cs c.requires.within small e.few c.number_of-at.ensures e.cells e.kept
-          (rw c.used.ensures at c.copy.ensures.copied) (rw c.used.ensures at c.copy.ensures.kept);
-      left = left_here c.args.c.now c.sweep_cells-left.new.c c.copy.new.c c.args.p.now k o c.args.n c.number_of-at.result
-          c.sweep_cells-left.result c.args.action cs c.requires.within small e.few c.number_of-at.ensures e.cells e.kept;
-      few = e.few;
+      few = few;
+      cells = kept_cells_below swept new (at + r) behind f.kept at r (omega arith) ∙ e.cells;
+      moved = f.copied ∙ kept_cells_above old swept at n e.kept (at + n) behind (omega arith);
+      kept = kept_twice old swept new at (n + behind) (kept_wider old swept at n e.kept at (n + behind) (omega arith) (omega arith))
+          (kept_wider swept new (at + r) behind f.kept at (n + behind) (omega arith) (omega arith));
     }
