@@ -3,7 +3,7 @@ use Rattle.std.proofs.Common.{◌≡◌, ℕ, ◌+◌, ◌-◌, ◌*◌, ◌≤�
 use Rattle.std.proofs.lemmas.List.{append-nil}
 use Rattle.model.specs.Paper.{Cell, Change}
 use Rattle.slots.specs.Cells.{cell_at, cells_at, Kept}
-use Rattle.slots.proofs.Words.{length_cells, cells_split, cells_more, take_cells, drop_cells, kept_cell_above, kept_cells_below, kept_cells_above, kept_wider, kept_twice}
+use Rattle.slots.proofs.Words.{length_cells, cells_split, cells_more, take_cells, drop_cells, kept_cell_above, kept_cells_below, kept_wider, kept_twice}
 use Rattle.pieces.specs.Store.{slot, used, piece}
 use Rattle.pieces.specs.Edits.{Filled}
 use Rattle.pieces.proofs.Change.{filled}
@@ -17,12 +17,11 @@ unfolding swept
 swept_more a cs xs x = swept_append a cs xs (x ∷ []) ∙ ap (λ ys. swept a cs xs ++ ys) (append-nil (fate a cs x))
 
 -- a cell x written behind the first n
-pub written_behind : (c d : List ℕ) (at n : ℕ) (x : Cell) → cell_at d (at + n) ≡ x → Kept c d (at + n) 1
-    → (cells_at d at (n + 1) ≡ cells_at c at n ++ (x ∷ [])) × Kept c d at (n + 1)
+pub written_behind : (c d : List ℕ) (at n : ℕ) (x : Cell) → cell_at d (at + n) ≡ x → Kept c d (at + n) 1 → cells_at d at (n + 1) ≡ cells_at c at n ++ (x ∷ [])
 written_behind c d at n x e h =
     let m = cells_more d at n in
     let b = kept_cells_below c d (at + n) 1 h at n (omega arith) in
-    (cc, kept_wider c d (at + n) 1 h at (n + 1) (omega arith) (omega arith))
+    cc
 
 -- a turn of the loop
 pub swept_step : (c d e : List ℕ) (at i n m : ℕ) (a : Action) (cs : List Change) → n ≤ i → m ≤ i + 1

@@ -128,6 +128,7 @@ fn sweep_cells(c: &mut [u32], row: &Row, at: usize, n: usize, action: Action) ->
     ensures kept { Kept c.old c.new at n }
 {
     let mut stay = 0;
+    // An index, as the cells that stay are written over the lent words that are read.
     for i in 0..n {
         stay = sweep_cell(c, row, at, i, stay, action);
     }
@@ -135,14 +136,7 @@ fn sweep_cells(c: &mut [u32], row: &Row, at: usize, n: usize, action: Action) ->
 }
 
 // Sweeps the `n` cells from number `at` on, and moves the `behind` cells that follow them down. Returns how many of the `n` are left.
-fn sweep_slot(
-    c: &mut [u32],
-    row: &Row,
-    at: usize,
-    n: usize,
-    behind: usize,
-    action: Action,
-) -> usize
+fn sweep_slot(c: &mut [u32], row: &Row, at: usize, n: usize, behind: usize, action: Action) -> usize
     requires { 4 * (at + n + behind) ≤ length c.old }
     ensures few { result ≤ n }
     ensures cells { cells_at c.new at result ≡ swept action (changes_in row.now) (cells_at c.old at n) }
@@ -207,7 +201,7 @@ pub fn sweep_run(text: &mut TextMut, row: &Row, place: usize, n: usize, action: 
 {
     let mut next = place;
     let mut left = n;
-    // A turn takes what one piece has, so that no range counts the turns.
+    // Not a `for`, as only a turn itself shows how many cells it takes.
     while left > 0 {
         let lent = text.text();
         let spot = lent.locate(next);
@@ -267,6 +261,7 @@ fn sweep_whole(c: &mut [u32], p: &mut [u32], s: usize, row: &Row, k: usize, acti
 pub fn sweep_all(text: &mut TextMut, row: &Row, action: Action)
     ensures { Rewrites text.old text.new (swept action (changes_in row.now) (cells_of_mut text.old)) }
 {
+    // An index, as the order of the slots is lent memory.
     for k in 0..text.slots {
         sweep_whole(text.cells, text.tables, text.slots, row, k, action);
     }
@@ -286,6 +281,7 @@ fn touched_cells(c: &[u32], at: usize, n: usize, change: u32) -> usize
     ensures few { result ≤ n }
 {
     let mut count = 0;
+    // An index, as cells are read from lent words.
     for i in 0..n {
         if is_touched(slots::read(c, at + i), change) {
             count += 1;
@@ -311,6 +307,7 @@ pub fn touched(text: &Text, change: u32) -> u32
     ensures { result ≡ touches (cells_in text.now) change }
 {
     let mut count = 0;
+    // An index, as the order of the slots is lent memory.
     for k in 0..text.slots {
         count += touched_piece(text, k, change);
     }
