@@ -1,8 +1,10 @@
 -- Laws of cells in words.
-use Rattle.std.proofs.Common.{◌≡◌, ℕ, zero, suc, ◌+◌, ◌-◌, ◌*◌, ◌<◌, ◌≤◌, List, [], ◌∷◌, ◌++◌, length, get_or, take, drop, refl, ap, ◌∙◌, add-zero, add-suc, suc-add, zero-add, arith}
+use Rattle.std.proofs.Common.{◌≡◌, ℕ, zero, suc, ◌+◌, ◌-◌, ◌*◌, ◌/◌, ◌<◌, ◌≤◌, List, [], ◌∷◌, ◌++◌, length, get_or, take, drop, refl, ap, ◌∙◌, add-zero, add-suc, suc-add, zero-add, arith}
 use Rattle.std.proofs.lemmas.List.{ext_get_or, get_or-drop, length-drop, take_at, drop_at}
+use Rattle.std.proofs.lemmas.List.Edits.{get_or-between, length-between}
+use Rattle.std.specs.List.{between}
 use Rattle.model.specs.Paper.{Cell, new_cells}
-use Rattle.slots.specs.Cells.{cell_at, cells_at, Kept}
+use Rattle.slots.specs.Cells.{all_cells, cell_at, cells_at, Kept}
 
 -- a cell is known from its four words
 pub cell_same : (c d : List ℕ) (a b : ℕ) → get_or c (4 * a) 0 ≡ get_or d (4 * b) 0 → get_or c (4 * a + 1) 0 ≡ get_or d (4 * b + 1) 0
@@ -50,6 +52,20 @@ pub drop_cells : (c : List ℕ) (a n i : ℕ) → i ≤ n → drop i (cells_at c
 drop_cells c a n i l =
     let e : n ≡ i + (n - i) = omega arith in
     ap (λ m. drop i (cells_at c a m)) e ∙ ap (drop i) (cells_split c a i (n - i)) ∙ drop_at (cells_at c a i) (cells_at c (a + i) (n - i)) i (length_cells c a i)
+
+-- the n cells from number a on are those of their own words
+pub cells_part : (w : List ℕ) (a n : ℕ) → cells_at (between (4 * a) (4 * (a + n)) w) 0 n ≡ cells_at w a n
+cells_part w a n = cells_same (between (4 * a) (4 * (a + n)) w) w 0 a n (λ i l. rw zero-add (cell_same _ w i (a + i) (simp add-zero at (word i 0 l (omega arith))) (word i 1 l (omega arith)) (word i 2 l (omega arith)) (word i 3 l (omega arith))))
+  where
+    word : (i j : ℕ) → i < n → j < 4 → get_or (between (4 * a) (4 * (a + n)) w) (4 * i + j) 0 ≡ get_or w (4 * (a + i) + j) 0
+    word i j l m =
+        let e : 4 * a + (4 * i + j) ≡ 4 * (a + i) + j = omega arith in
+        rw e at (get_or-between w (4 * a) (4 * (a + n)) (4 * i + j) 0 (omega arith))
+
+pub all_part : (w : List ℕ) (a n : ℕ) → 4 * (a + n) ≤ length w → all_cells (between (4 * a) (4 * (a + n)) w) ≡ cells_at w a n
+all_part w a n h =
+    let l : length (between (4 * a) (4 * (a + n)) w) / 4 ≡ n = omega (arith, length-between w (4 * a) (4 * (a + n)) h) in
+    ap (cells_at (between (4 * a) (4 * (a + n)) w) 0) l ∙ cells_part w a n
 
 -- what a change of the n cells from b on leaves
 module _ (c d : List ℕ) (b n : ℕ) (k : Kept c d b n) where
