@@ -2,6 +2,9 @@
 ghost use Rattle.std.specs.Prelude.{◌≡◌, ◌+◌, ◌-◌, ◌≤◌, ◌++◌, length, take, drop, slice_set};
 ghost use Rattle.history.specs.Head.{kind_number, kind_at, head_list, head_at, HeadReads, EntryWritten, EntryStands, PayloadStands, LetterStands, CellsStand, MarksStand, CellsMake, MarksMake, WrittenLong};
 
+// How many words a head has.
+pub const HEAD: usize = 7;
+
 // The call that was done.
 #[derive(Clone, Copy, Debug, PartialEq, Eq, Hash)]
 pub enum Kind {
