@@ -1,6 +1,8 @@
 // The words of one entry of the log: a head of seven words, then letters, cells or marks, and the entry's size again.
 ghost use Rattle.std.specs.Prelude.{◌≡◌, ◌+◌, ◌-◌, ◌≤◌, ◌++◌, length, take, drop, slice_set};
-ghost use Rattle.history.specs.Head.{kind_number, kind_at, head_list, head_at, HeadReads, EntryWritten, EntryStands, PayloadStands, LetterStands, CellsStand, MarksStand, CellsMake, MarksMake, WrittenLong};
+ghost use Rattle.history.specs.Head.{kind_number, kind_at, verdict_kind, head_list, head_at, HeadReads, EntryWritten, EntryStands, PayloadStands, LetterStands, CellsStand, MarksStand, CellsMake, MarksMake, WrittenLong};
+
+use model::Verdict;
 
 // How many words a head has.
 pub const HEAD: usize = 7;
@@ -58,7 +60,19 @@ impl From<u32> for Kind {
     }
 }
 
-// The head of the entry that stands at `at`.
+/// That of a decision.
+impl From<Verdict> for Kind {
+    ghost from_gives = { λ verdict kind. kind ≡ verdict_kind verdict };
+
+    fn from(verdict: Verdict) -> Kind {
+        match verdict {
+            Verdict::Accepted => Kind::Accept,
+            Verdict::Rejected => Kind::Reject,
+        }
+    }
+}
+
+// The head of the entry that stands at `at`: a place beside the words here and below, as the log tells where an entry stands.
 pub fn read_head(u: &[u32], at: usize) -> Head
     requires { at + 7 ≤ length u.now }
     ensures words { result ≡ head_at u.now at }

@@ -1,4 +1,5 @@
 // The log of what can be undone and done again, in lent words: a head of sixteen words, then the words of the entries, the oldest first.
+// Functions over the words, and no struct that keeps `Keeps`: `behind` and `ahead` ask for sixteen words alone and `push` for room, not for an entry.
 ghost use Rattle.std.specs.Prelude.{◌≡◌, ℕ, ◌+◌, ◌-◌, ◌*◌, ◌<◌, ◌≤◌, List, [], ◌++◌, length, drop, replicate, slice_index};
 ghost use Rattle.history.specs.Entry.{Entry};
 ghost use Rattle.history.specs.Log.{Log, Keeps, SomeLog, StepsBack, StepsAhead, Inside, Drops, ForgetsOldest, Forgets, Stays, Room, MakesRoom, CanPush, Pushes, WrittenKeeps, WrittenKeepsRoom, RoomPushes, end_of};
@@ -175,6 +176,7 @@ fn forget(u: &mut [u32], most: u32)
     ensures within { slice_index u.new 5 ≤ most }
     ensures rest { drop 7 u.new ≡ drop 7 u.old }
 {
+    // By hand, as how many are forgotten is told by what they count.
     while u[5] > most {
         forget_oldest(u);
     }

@@ -9,7 +9,8 @@ use Rattle.history.specs.Entry.{Mark, mark_back, marks_back, Placed}
 use Rattle.history.specs.Words.{marks_read}
 use Rattle.model.specs.declared.verdict.Verdict.{Verdict}
 use Rattle.restore.specs.Back.{goes, first_mark, marks_in, CanMark}
-use Rattle.restore.proofs.Rewriting.{rewrites_none, rewrites_as, rewrites_both, rewrites_cells}
+use Rattle.pieces.proofs.Rewriting.{rewrites_both, rewrites_text}
+use Rattle.restore.proofs.Rewriting.{rewrites_none, rewrites_as}
 
 -- the cell of a mark stands behind its place
 pub first_cell : (ws : List ℕ) → cell_at (drop 1 ws) 0 ≡ (first_mark ws).cell
@@ -131,7 +132,7 @@ module _ (went : Cell → Bool) (ws rest part left : List ℕ) (old new : TextMu
   pub going_more : (newer : TextMut) → Rewrites new newer (mark_back (went (first_mark part).cell) (first_mark part) (cells_of_mut new)) → Going went ws left old newer
   unfolding marks_back
   going_more newer g =
-      let is = rewrites_cells new newer _ g in
+      let is = rewrites_text new newer _ g in
       let can = rest_placed went (first_mark part) (marks_in left) (cells_of_mut new) new.slots next in
       record {
         rewrites = rewrites_both old new newer _ _ _ h.rewrites g (sym is);

@@ -6,7 +6,8 @@ use Rattle.slots.specs.Cells.{all_cells, cells_at}
 use Rattle.slots.proofs.Words.{length_cells}
 use Rattle.pieces.specs.Text.{Rewrites, cells_of_mut}
 use Rattle.pieces.specs.declared.text.TextMut.{TextMut}
-use Rattle.restore.proofs.Rewriting.{rewrites_none, rewrites_as, rewrites_both, rewrites_cells}
+use Rattle.pieces.proofs.Rewriting.{rewrites_both, rewrites_text}
+use Rattle.restore.proofs.Rewriting.{rewrites_none, rewrites_as}
 use Rattle.restore.proofs.Runs.{all_parts, length_put, put_more}
 
 -- the cells with words `ws` are put in at a place: those in `rest` are left, and come at `at`
@@ -32,13 +33,13 @@ module _ (ws rest part left : List ℕ) (place at : ℕ) (old new : TextMut) (e 
 
   pub putting_place : at ≤ length (cells_of_mut new)
   putting_place =
-      let n = ap length (rewrites_cells old new _ h.rewrites) in
+      let n = ap length (rewrites_text old new _ h.rewrites) in
       let m = length_put (cells_of_mut old) h.done place within in
       omega (arith, h.place_now)
 
   pub putting_fits : length (cells_of_mut old) + length ws / 4 ≤ 768 * (old.slots - 1) → length (cells_of_mut new) + length part / 4 ≤ 768 * (new.slots - 1)
   putting_fits f =
-      let n = ap length (rewrites_cells old new _ h.rewrites) in
+      let n = ap length (rewrites_text old new _ h.rewrites) in
       let m = length_put (cells_of_mut old) h.done place within in
       let a = ap length h.all ∙ length-append h.done (all_cells rest) in
       let b = ap length parts ∙ length-append (all_cells part) (all_cells left) in
@@ -57,7 +58,7 @@ module _ (ws rest part left : List ℕ) (place at : ℕ) (old new : TextMut) (e 
         place_now = omega (arith, h.place_now, length-append h.done (all_cells part));
         rewrites =
             rewrites_both old new newer _ _ _ h.rewrites g
-            (put_more (cells_of_mut old) (cells_of_mut new) h.done (all_cells part) place at within h.place_now (rewrites_cells old new _ h.rewrites));
+            (put_more (cells_of_mut old) (cells_of_mut new) h.done (all_cells part) place at within h.place_now (rewrites_text old new _ h.rewrites));
       }
 
 pub putting_all : (ws rest : List ℕ) (place at : ℕ) (old new : TextMut) → rest ≡ [] → Putting ws rest place at old new
