@@ -2,6 +2,8 @@
 use Rattle.std.specs.Prelude.{◌≡◌, ℕ, ◌+◌, ◌-◌, ◌*◌, ◌<◌, ◌≤◌, List, [], ◌∷◌, ◌++◌, length, get_or, take, drop, ◌==◌, slice_index, slice_index_or, slice_set}
 use Rattle.std.specs.List.{between}
 use Rattle.model.specs.Paper.{pick, Cell, cells_written}
+use Rattle.model.specs.declared.verdict.Verdict.{Verdict}
+use Rattle.model.specs.declared.verdict.Verdict.TheVariants as verdict
 use Rattle.history.specs.Entry.{Mark, Entry, was_put, was_struck, was_accepted, was_rejected, was_styled, counts}
 use Rattle.history.specs.Words.{marks_written, payload_words, entry_size, entry_words, EntryAt}
 use Rattle.history.specs.declared.entry.Kind.{Kind}
@@ -18,6 +20,11 @@ kind_number Style = 4
 
 abbrev pub kind_at : ℕ → Kind
 kind_at n = pick (n == 0) Put (pick (n == 1) Strike (pick (n == 2) Accept (pick (n == 3) Reject Style)))
+
+-- the kind of a decision
+abbrev pub verdict_kind : Verdict → Kind
+verdict_kind verdict.Accepted = Accept
+verdict_kind verdict.Rejected = Reject
 
 -- the head of an entry
 unfoldable pub head_of : Entry → Head

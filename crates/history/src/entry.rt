@@ -1,9 +1,14 @@
 // The words of one entry of the log: a head of seven words, then letters, cells or marks, and the entry's size again.
 ghost use Rattle.std.specs.Prelude.{◌≡◌, ◌+◌, ◌-◌, ◌≤◌, ◌++◌, length, take, drop, slice_set};
-ghost use Rattle.history.specs.Head.{kind_number, kind_at, head_list, head_at, HeadReads, EntryWritten, EntryStands, PayloadStands, LetterStands, CellsStand, MarksStand, CellsMake, MarksMake, WrittenLong};
+ghost use Rattle.history.specs.Head.{kind_number, kind_at, verdict_kind, head_list, head_at, HeadReads, EntryWritten, EntryStands, PayloadStands, LetterStands, CellsStand, MarksStand, CellsMake, MarksMake, WrittenLong};
+
+use model::Verdict;
+
+// How many words a head has.
+pub const HEAD: usize = 7;
 
 // The call that was done.
-#[derive(Clone, Copy)]
+#[derive(Clone, Copy, Debug, PartialEq, Eq, Hash)]
 pub enum Kind {
     Put,
     Strike,
@@ -12,7 +17,7 @@ pub enum Kind {
     Style,
 }
 
-#[derive(Clone, Copy)]
+#[derive(Clone, Copy, Debug, PartialEq, Eq, Hash)]
 pub struct Head {
     // how many words the entry has, and what it counts
     pub size: u32,
@@ -26,31 +31,48 @@ pub struct Head {
     pub style: u32,
 }
 
-fn number(kind: Kind) -> u32
-    ensures { result ≡ kind_number kind }
-{
-    match kind {
-        Kind::Put => 0,
-        Kind::Strike => 1,
-        Kind::Accept => 2,
-        Kind::Reject => 3,
-        Kind::Style => 4,
+impl From<Kind> for u32 {
+    ghost from_gives = { λ kind n. n ≡ kind_number kind };
+
+    fn from(kind: Kind) -> u32 {
+        match kind {
+            Kind::Put => 0,
+            Kind::Strike => 1,
+            Kind::Accept => 2,
+            Kind::Reject => 3,
+            Kind::Style => 4,
+        }
     }
 }
 
-fn kind_at(word: u32) -> Kind
-    ensures { result ≡ kind_at word }
-{
-    match word {
-        0 => Kind::Put,
-        1 => Kind::Strike,
-        2 => Kind::Accept,
-        3 => Kind::Reject,
-        _ => Kind::Style,
+/// Any other number is that of a change of style.
+impl From<u32> for Kind {
+    ghost from_gives = { λ n kind. kind ≡ kind_at n };
+
+    fn from(number: u32) -> Kind {
+        match number {
+            0 => Kind::Put,
+            1 => Kind::Strike,
+            2 => Kind::Accept,
+            3 => Kind::Reject,
+            _ => Kind::Style,
+        }
     }
 }
 
-// The head of the entry that stands at `at`.
+/// That of a decision.
+impl From<Verdict> for Kind {
+    ghost from_gives = { λ verdict kind. kind ≡ verdict_kind verdict };
+
+    fn from(verdict: Verdict) -> Kind {
+        match verdict {
+            Verdict::Accepted => Kind::Accept,
+            Verdict::Rejected => Kind::Reject,
+        }
+    }
+}
+
+// The head of the entry that stands at `at`: a place beside the words here and below, as the log tells where an entry stands.
 pub fn read_head(u: &[u32], at: usize) -> Head
     requires { at + 7 ≤ length u.now }
     ensures words { result ≡ head_at u.now at }
@@ -59,7 +81,7 @@ pub fn read_head(u: &[u32], at: usize) -> Head
     Head {
         size: u[at],
         count: u[at + 1],
-        kind: kind_at(u[at + 2]),
+        kind: Kind::from(u[at + 2]),
         who: u[at + 3],
         place: u[at + 4],
         standing: u[at + 5],
@@ -72,7 +94,7 @@ pub fn write_head(u: &mut [u32], at: usize, head: Head)
     requires { at + 7 ≤ length u.old }
     ensures { u.new ≡ take at u.old ++ (head_list head ++ drop (at + 7) u.old) }
 {
-    let kind = number(head.kind);
+    let kind = u32::from(head.kind);
     u[at] = head.size;
     u[at + 1] = head.count;
     u[at + 2] = kind;
@@ -92,22 +114,18 @@ pub fn write_tail(u: &mut [u32], at: usize, size: u32)
 }
 
 // An entry is written by its head, its letters, cells or marks from its seventh word on, and its tail; and read back from there.
-pub fn entry_is_written() -> u8
+pub fn entry_is_written()
     ensures written { EntryWritten }
     ensures stands { EntryStands }
     ensures payload { PayloadStands }
     ensures letter { LetterStands }
-{
-    0
-}
+{}
 
 // Cells stand in four words each, and marks in five, one after another.
-pub fn cells_and_marks_stand() -> u8
+pub fn cells_and_marks_stand()
     ensures cells { CellsStand }
     ensures marks { MarksStand }
     ensures make_cells { CellsMake }
     ensures make_marks { MarksMake }
     ensures long { WrittenLong }
-{
-    0
-}
+{}

@@ -10,27 +10,23 @@ pub mod log;
 
 // An entry brings back the paper before its call, does the call again, and counts one and the cells that the call was about.
 // Undo finds the cells and the change that it needs.
-pub fn undo_brings_back() -> u8
+pub fn undo_brings_back()
     ensures undo { UndoBringsBack }
     ensures redo { RedoDoesAgain }
     ensures counts { CountsAsMuch }
     ensures finds { UndoFinds }
-{
-    0
-}
+{}
 
 // What is kept of the entries is what the desk remembers: the oldest are forgotten until the rest counts no more than the limit.
-pub fn kept_is_remembered() -> u8
+pub fn kept_is_remembered()
     ensures same { KeptRemembered }
     ensures within { KeptWithin }
     ensures all { KeptAll }
     ensures forgets { KeptForgets }
-{
-    0
-}
+{}
 
 // A paper and its entries stand for a desk, from the empty one on, over every call.
-pub fn entries_stand() -> u8
+pub fn entries_stand()
     ensures opens { Opens }
     ensures write { WriteSteps }
     ensures undo { UndoSteps }
@@ -40,21 +36,17 @@ pub fn entries_stand() -> u8
     ensures turned { TurnedKeeps }
     ensures looking { LookingKeeps }
     ensures always { AlwaysStands }
-{
-    0
-}
+{}
 
 // An entry is read back from its words in one way only, and these are at most 8 for each that it counts.
-pub fn words_read_back() -> u8
+pub fn words_read_back()
     ensures reads { ReadsBack }
     ensures one { OneEntry }
     ensures long { EntryLong }
-{
-    0
-}
+{}
 
 // A log is stepped over by the sizes at both ends of each entry, forgets the oldest at its start, grows at its cursor, and can be moved.
-pub fn log_steps() -> u8
+pub fn log_steps()
     ensures long { LogLong }
     ensures one { OneLog }
     ensures back { LogBack }
@@ -63,6 +55,4 @@ pub fn log_steps() -> u8
     ensures drops { LogDrops }
     ensures pushes { LogPushes }
     ensures moves { LogMoves }
-{
-    0
-}
+{}

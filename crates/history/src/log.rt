@@ -1,10 +1,11 @@
 // The log of what can be undone and done again, in lent words: a head of sixteen words, then the words of the entries, the oldest first.
+// Functions over the words, and no struct that keeps `Keeps`: `behind` and `ahead` ask for sixteen words alone and `push` for room, not for an entry.
 ghost use Rattle.std.specs.Prelude.{◌≡◌, ℕ, ◌+◌, ◌-◌, ◌*◌, ◌<◌, ◌≤◌, List, [], ◌++◌, length, drop, replicate, slice_index};
 ghost use Rattle.history.specs.Entry.{Entry};
-ghost use Rattle.history.specs.Log.{Log, Keeps, SomeLog, Headed, StepsBack, StepsAhead, Inside, Drops, ForgetsOldest, Forgets, Stays, Room, MakesRoom, CanPush, Pushes, WrittenKeeps, WrittenKeepsRoom, RoomPushes, end_of};
+ghost use Rattle.history.specs.Log.{Log, Keeps, SomeLog, StepsBack, StepsAhead, Inside, Drops, ForgetsOldest, Forgets, Stays, Room, MakesRoom, CanPush, Pushes, WrittenKeeps, WrittenKeepsRoom, RoomPushes, end_of};
 
 // The head. Start, cursor and end are counted from word 16 on.
-#[derive(Clone, Copy)]
+#[derive(Clone, Copy, Debug, PartialEq, Eq, Hash)]
 struct State {
     start: u32,
     cursor: u32,
@@ -17,33 +18,37 @@ struct State {
     undone: u32,
 }
 
-fn read(u: &[u32]) -> State
-    requires { 16 ≤ length u.now }
-    ensures { Headed u.now result }
-{
-    State {
-        start: u[0],
-        cursor: u[1],
-        end: u[2],
-        behind: u[3],
-        ahead: u[4],
-        done: u[5],
-        undone: u[6],
-    }
-}
+impl State {
+    ghost use Rattle.history.specs.Log.{Headed};
 
-fn write(u: &mut [u32], s: State)
-    requires { 16 ≤ length u.old }
-    ensures head { Headed u.new s }
-    ensures rest { drop 7 u.new ≡ drop 7 u.old }
-{
-    u[0] = s.start;
-    u[1] = s.cursor;
-    u[2] = s.end;
-    u[3] = s.behind;
-    u[4] = s.ahead;
-    u[5] = s.done;
-    u[6] = s.undone;
+    fn read(u: &[u32]) -> State
+        requires { 16 ≤ length u.now }
+        ensures { Headed u.now result }
+    {
+        State {
+            start: u[0],
+            cursor: u[1],
+            end: u[2],
+            behind: u[3],
+            ahead: u[4],
+            done: u[5],
+            undone: u[6],
+        }
+    }
+
+    fn write(self, u: &mut [u32])
+        requires { 16 ≤ length u.old }
+        ensures head { Headed u.new self }
+        ensures rest { drop 7 u.new ≡ drop 7 u.old }
+    {
+        u[0] = self.start;
+        u[1] = self.cursor;
+        u[2] = self.end;
+        u[3] = self.behind;
+        u[4] = self.ahead;
+        u[5] = self.done;
+        u[6] = self.undone;
+    }
 }
 
 // How many entries can be undone.
@@ -73,7 +78,7 @@ pub fn step_back(u: &mut [u32]) -> usize
     ensures inside { Inside u.new result }
     ensures rest { drop 7 u.new ≡ drop 7 u.old }
 {
-    let log = read(u);
+    let log = State::read(u);
     let size = u[15 + log.cursor as usize];
     let cursor = log.cursor - size;
     let at = 16 + cursor as usize;
@@ -86,7 +91,7 @@ pub fn step_back(u: &mut [u32]) -> usize
         undone: log.undone + count,
         ..log
     };
-    write(u, state);
+    state.write(u);
     at
 }
 
@@ -99,7 +104,7 @@ pub fn step_ahead(u: &mut [u32]) -> usize
     ensures inside { Inside u.new result }
     ensures rest { drop 7 u.new ≡ drop 7 u.old }
 {
-    let log = read(u);
+    let log = State::read(u);
     let at = 16 + log.cursor as usize;
     let size = u[at];
     let count = u[at + 1];
@@ -111,7 +116,7 @@ pub fn step_ahead(u: &mut [u32]) -> usize
         undone: log.undone - count,
         ..log
     };
-    write(u, state);
+    state.write(u);
     at
 }
 
@@ -123,9 +128,7 @@ pub fn clear(u: &mut [u32], limit: u32)
     ensures log { Log u.new limit [] [] }
 {
     let n = 16 + 16 * limit as usize;
-    for i in 0..n {
-        u[i] = 0;
-    }
+    u[..n].fill(0);
 }
 
 // Drops what could be done again.
@@ -135,14 +138,14 @@ fn drop_ahead(u: &mut [u32])
     ensures none { slice_index u.new 4 ≡ 0 }
     ensures rest { drop 7 u.new ≡ drop 7 u.old }
 {
-    let log = read(u);
+    let log = State::read(u);
     let state = State {
         end: log.cursor,
         ahead: 0,
         undone: 0,
         ..log
     };
-    write(u, state);
+    state.write(u);
 }
 
 // Forgets the oldest entry behind the cursor.
@@ -153,7 +156,7 @@ fn forget_oldest(u: &mut [u32])
     ensures fewer { slice_index u.new 3 < slice_index u.old 3 }
     ensures rest { drop 7 u.new ≡ drop 7 u.old }
 {
-    let log = read(u);
+    let log = State::read(u);
     let at = 16 + log.start as usize;
     let size = u[at];
     let count = u[at + 1];
@@ -163,7 +166,7 @@ fn forget_oldest(u: &mut [u32])
         done: log.done - count,
         ..log
     };
-    write(u, state);
+    state.write(u);
 }
 
 // Forgets the oldest entries until those behind the cursor count at most `most` together.
@@ -173,6 +176,7 @@ fn forget(u: &mut [u32], most: u32)
     ensures within { slice_index u.new 5 ≤ most }
     ensures rest { drop 7 u.new ≡ drop 7 u.old }
 {
+    // By hand, as how many are forgotten is told by what they count.
     while u[5] > most {
         forget_oldest(u);
     }
@@ -185,7 +189,7 @@ fn to_front(u: &mut [u32])
     ensures front { slice_index u.new 0 ≡ 0 }
     ensures rest { (n : ℕ) → end_of u.old ≤ n → drop n u.new ≡ drop n u.old }
 {
-    let log = read(u);
+    let log = State::read(u);
     let from = 16 + log.start as usize;
     let to = 16 + log.end as usize;
     u.copy_within(from..to, 16);
@@ -195,7 +199,7 @@ fn to_front(u: &mut [u32])
         end: log.end - log.start,
         ..log
     };
-    write(u, state);
+    state.write(u);
 }
 
 // Where the words of an entry that counts `count` can be written: after the last entry, if need be after the log was moved to the front.
@@ -237,7 +241,7 @@ pub fn push(u: &mut [u32], size: u32, count: u32)
     ensures pushes { Pushes u.old u.new size count }
     ensures rest { drop 7 u.new ≡ drop 7 u.old }
 {
-    let log = read(u);
+    let log = State::read(u);
     let state = State {
         cursor: log.cursor + size,
         end: log.cursor + size,
@@ -245,14 +249,12 @@ pub fn push(u: &mut [u32], size: u32, count: u32)
         done: log.done + count,
         ..log
     };
-    write(u, state);
+    state.write(u);
 }
 
 // Whoever writes only from the end on keeps the log and the room in it, and can push what is written there.
-pub fn written_keeps() -> u8
+pub fn written_keeps()
     ensures log { WrittenKeeps }
     ensures room { WrittenKeepsRoom }
     ensures pushes { RoomPushes }
-{
-    0
-}
+{}

@@ -5,14 +5,14 @@ use Rattle.model.specs.Paper.{Cell, Paper, cells_written, touched}
 use Rattle.model.specs.Calls.{strikes, styles}
 use Rattle.history.specs.Entry.{staying, marks_of, was_put, entry_of, much_of, counts}
 use Rattle.history.specs.Words.{marks_written, payload_words}
-use Rattle.history.specs.Head.{head_of}
+use Rattle.history.specs.Head.{head_of, verdict_kind}
 use Rattle.history.specs.declared.entry.Kind.{Kind}
 use Rattle.history.specs.declared.entry.Kind.TheVariants.{Put, Strike, Style}
 use Rattle.history.proofs.Logging.{length_cells_written, length_marks_written}
 use Rattle.history.proofs.Undoing.{length_marks}
-use Rattle.recorder.specs.declared.Outcome.{Outcome}
-use Rattle.recorder.specs.declared.Outcome.TheVariants.{Accepted, Rejected}
-use Rattle.recorder.specs.Records.{decided, kind_of}
+use Rattle.model.specs.declared.verdict.Verdict.{Verdict}
+use Rattle.model.specs.declared.verdict.Verdict.TheVariants.{Accepted, Rejected}
+use Rattle.recorder.specs.Records.{decided}
 
 -- letters
 pub put_words : (a i s : ℕ) (ls : List ℕ) → payload_words (was_put a i s ls) ≡ ls
@@ -74,17 +74,17 @@ module _ (p : Paper) (i n : ℕ) (h : i + n ≤ length p.cells) where
 
 -- marks
 module _ (p : Paper) (c : ℕ) where
-  pub decided_words : (o : Outcome) → payload_words (entry_of p (decided o c)) ≡ marks_written (marks_of p.cells c 0)
+  pub decided_words : (o : Verdict) → payload_words (entry_of p (decided o c)) ≡ marks_written (marks_of p.cells c 0)
   unfolding entry_of payload_words
   decided_words Accepted = refl
   decided_words Rejected = refl
 
-  pub decided_counts : (o : Outcome) (n : ℕ) → n ≡ touched p.cells c → 1 + n ≡ counts (entry_of p (decided o c))
+  pub decided_counts : (o : Verdict) (n : ℕ) → n ≡ touched p.cells c → 1 + n ≡ counts (entry_of p (decided o c))
   unfolding entry_of much_of
   decided_counts Accepted n e = omega (arith, length_marks p.cells c 0)
   decided_counts Rejected n e = omega (arith, length_marks p.cells c 0)
 
-  pub decided_head : (o : Outcome) (n : ℕ) (k : Kind) → n ≡ touched p.cells c → k ≡ kind_of o →
+  pub decided_head : (o : Verdict) (n : ℕ) (k : Kind) → n ≡ touched p.cells c → k ≡ verdict_kind o →
       record { size = 8 + 5 * n; count = 1 + n; kind = k; who = c; place = 0; standing = 0; style = 0 } ≡ head_of (entry_of p (decided o c))
   unfolding entry_of head_of payload_words much_of
   decided_head Accepted n k e f =

@@ -100,24 +100,27 @@ marked_one u new to x c i e h is =
       count = sym (touched_one x c e);
     }
 
--- one more cell of a row
-pub cells_room : (w : List ℕ) (at n i c : ℕ) → i < n → touched (cells_at w at i) c + touched (cell_at w (at + i) ∷ []) c ≤ touched (cells_at w at n) c
-cells_room w at n i c l =
+-- one more of the cells with words w
+next_cells : (w : List ℕ) (i : ℕ) → cells_at w 0 (i + 1) ≡ cells_at w 0 i ++ (cell_at w i ∷ [])
+next_cells w i = cells_more w 0 i ∙ ap (λ a. cells_at w 0 i ++ (cell_at w a ∷ [])) (zero-add i)
+
+pub cells_room : (w : List ℕ) (n i c : ℕ) → i < n → touched (cells_at w 0 i) c + touched (cell_at w i ∷ []) c ≤ touched (cells_at w 0 n) c
+cells_room w n i c l =
     let e : i + 1 + (n - (i + 1)) ≡ n = omega arith in
-    let all : touched (cells_at w at n) c ≡ touched (cells_at w at (i + 1) ++ cells_at w (at + (i + 1)) (n - (i + 1))) c =
-    ap (λ m. touched (cells_at w at m) c) (sym e) ∙ ap (λ xs. touched xs c) (cells_split w at (i + 1) (n - (i + 1))) in
-    let t = touched_append (cells_at w at (i + 1)) (cells_at w (at + (i + 1)) (n - (i + 1))) c in
-    let more = ap (λ xs. touched xs c) (cells_more w at i) ∙ touched_append (cells_at w at i) (cell_at w (at + i) ∷ []) c in
+    let all : touched (cells_at w 0 n) c ≡ touched (cells_at w 0 (i + 1) ++ cells_at w (0 + (i + 1)) (n - (i + 1))) c =
+    ap (λ m. touched (cells_at w 0 m) c) (sym e) ∙ ap (λ xs. touched xs c) (cells_split w 0 (i + 1) (n - (i + 1))) in
+    let t = touched_append (cells_at w 0 (i + 1)) (cells_at w (0 + (i + 1)) (n - (i + 1))) c in
+    let more = ap (λ xs. touched xs c) (next_cells w i) ∙ touched_append (cells_at w 0 i) (cell_at w i ∷ []) c in
     omega arith
 
 pub marked_more :
-    (u v w cells : List ℕ) (to from i c first a b : ℕ) (x : Cell) → x ≡ cell_at cells (from + i) → MarkedAt u v to (cells_at cells from i) c first a →
-    MarkedAt v w (to + 5 * a) (x ∷ []) c (first + i) b → to + 5 * touched (cells_at cells from i) c ≤ length u → MarkedAt u w to (cells_at cells from (i + 1)) c first (a + b)
-marked_more u v w cells to from i c first a b x is f g h =
-    let l = length_cells cells from i in
-    let both : cells_at cells from i ++ (x ∷ []) ≡ cells_at cells from (i + 1) = ap (λ y. cells_at cells from i ++ (y ∷ [])) is ∙ sym (cells_more cells from i) in
-    marked_as u w to c first (a + b) (cells_at cells from i ++ (x ∷ [])) (cells_at cells from (i + 1)) both
-    (marked_join u v w to (to + 5 * a) (cells_at cells from i) (x ∷ []) c first (first + i) a b f g refl (omega arith) h)
+    (u v w cells : List ℕ) (to i c first a b : ℕ) (x : Cell) → x ≡ cell_at cells i → MarkedAt u v to (cells_at cells 0 i) c first a →
+    MarkedAt v w (to + 5 * a) (x ∷ []) c (first + i) b → to + 5 * touched (cells_at cells 0 i) c ≤ length u → MarkedAt u w to (cells_at cells 0 (i + 1)) c first (a + b)
+marked_more u v w cells to i c first a b x is f g h =
+    let l = length_cells cells 0 i in
+    let both : cells_at cells 0 i ++ (x ∷ []) ≡ cells_at cells 0 (i + 1) = ap (λ y. cells_at cells 0 i ++ (y ∷ [])) is ∙ sym (next_cells cells i) in
+    marked_as u w to c first (a + b) (cells_at cells 0 i ++ (x ∷ [])) (cells_at cells 0 (i + 1)) both
+    (marked_join u v w to (to + 5 * a) (cells_at cells 0 i) (x ∷ []) c first (first + i) a b f g refl (omega arith) h)
 
 -- a piece: all its cells, or none if it lacks the mark
 pub piece_is : (cells p : List ℕ) (k from n : ℕ) → from ≡ number p k 0 → n ≡ used p k → cells_at cells from n ≡ piece cells p k

@@ -3,6 +3,7 @@ use Rattle.std.proofs.Common.{◌≡◌, ℕ, suc, ◌+◌, ◌-◌, ◌<◌, �
 use Rattle.std.specs.List.{between}
 use Rattle.std.proofs.lemmas.List.{append_assoc, length-append, length-take-le, length-drop, take-append-drop, take_at, take_more, drop_at, drop-drop, set_split}
 use Rattle.recorder.specs.Records.{written_at}
+use borrow.Rule.Slice.PartMut.{put_mid}
 
 module _ (u : List ℕ) (a : ℕ) (ws : List ℕ) (fits : a + length ws ≤ length u) where
   front : length (take a u) ≡ a
@@ -47,6 +48,11 @@ module _ (u : List ℕ) (a : ℕ) (ws : List ℕ) (fits : a + length ws ≤ leng
       let a0 = append_assoc (take a u) ws (vs ++ drop (a + length (ws ++ vs)) u) in
       let a1 = append_assoc ws vs (drop (a + length (ws ++ vs)) u) in
       cc
+
+-- a part that is copied in
+pub put_at : (u ws new : List ℕ) (a k : ℕ) → new ≡ ws → k ≡ length ws → put_mid a k u new ≡ written_at u a ws
+put_at u ws new a k e f =
+    ap (λ xs. take a u ++ (xs ++ drop k (drop a u))) e ∙ ap (λ xs. take a u ++ (ws ++ xs)) (drop-drop k a u) ∙ ap (λ n. take a u ++ (ws ++ drop (a + n) u)) f
 
 pub written_none : (u : List ℕ) (a : ℕ) → written_at u a [] ≡ u
 written_none u a =

@@ -1,3 +1,5 @@
+mod Rewriting
 mod Runs
+mod Putting
 mod Marking
 mod Entries

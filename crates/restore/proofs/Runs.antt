@@ -1,11 +1,10 @@
 -- Cells put back in parts, and cells read from words.
-use Rattle.std.proofs.Common.{◌≡◌, ℕ, zero, suc, ◌+◌, ◌*◌, ◌≤◌, List, ◌++◌, length, get_or, take, drop, sym, refl, ap, ◌∙◌, zero-add, arith}
-use Rattle.std.proofs.lemmas.List.{length-append, length-take-le, length-drop, take_at, drop_at, get_or-drop, drop-drop}
+use Rattle.std.proofs.Common.{◌≡◌, ℕ, zero, suc, ◌+◌, ◌-◌, ◌*◌, ◌/◌, ◌%◌, ◌≤◌, min, List, [], ◌++◌, length, get_or, take, drop, sym, refl, ap, ◌∙◌, append-nil, zero-add, inl, inr, arith}
+use Rattle.std.proofs.lemmas.Bool.{cases_lt}
+use Rattle.std.proofs.lemmas.List.{length-append, length-take-le, length-drop, take_at, drop_at, append_assoc, get_or-drop, drop-drop, nil_from_length}
 use Rattle.model.specs.Paper.{Cell}
-use Rattle.slots.specs.Cells.{cell_at, cells_at}
-use Rattle.slots.proofs.Words.{cells_split, length_cells}
-use Rattle.pieces.specs.Edits.{replaced}
-use Rattle.pieces.proofs.Edit.{replaced_twice, put_text, removed_none}
+use Rattle.slots.specs.Cells.{all_cells, cell_at, cells_at}
+use Rattle.slots.proofs.Words.{all_part, cells_split, length_cells}
 use Rattle.history.specs.Entry.{run_back}
 use Rattle.history.specs.Words.{cells_read}
 
@@ -24,38 +23,61 @@ cells_numbered ws (suc n) a =
     let h = cells_numbered ws n (suc a) in
     cc
 
-pub cells_read_is : (ws : List ℕ) (n : ℕ) → cells_at ws 0 n ≡ cells_read n ws
-cells_read_is ws n = cells_numbered ws n 0
+-- the cells whose words are taken from the beginning
+pub all_taken : (ws : List ℕ) (n : ℕ) → 4 * n ≤ length ws → all_cells (take (4 * n) ws) ≡ cells_read n ws
+all_taken ws n h =
+    let z : 4 * (0 + n) - 4 * 0 ≡ 4 * n = omega arith in
+    ap (λ k. all_cells (take k ws)) (sym z) ∙ all_part ws 0 n (rw zero-add h) ∙ cells_numbered ws n 0
 
--- a text with no cells put in
-pub put_none : (t : List Cell) (ws : List ℕ) (i : ℕ) → t ≡ replaced t i 0 (cells_at ws 0 0)
+-- the cells of two parts, of which the first has whole cells
+all_append : (part rest : List ℕ) → length part % 4 ≡ 0 → all_cells (part ++ rest) ≡ all_cells part ++ all_cells rest
+all_append part rest h =
+    let m = length part / 4 in
+    let n = length rest / 4 in
+    let e : length part ≡ 4 * m = omega arith in
+    let l : length (part ++ rest) / 4 ≡ m + n = omega (arith, length-append part rest) in
+    let few : 4 * m ≤ length (part ++ rest) = omega (arith, length-append part rest) in
+    let first : cells_at (part ++ rest) 0 m ≡ all_cells part =
+    cells_numbered (part ++ rest) m 0 ∙ sym (all_taken (part ++ rest) m few) ∙ ap all_cells (take_at part rest (4 * m) e) in
+    let second : cells_at (part ++ rest) m n ≡ all_cells rest =
+    cells_numbered (part ++ rest) n m ∙ ap (cells_read n) (drop_at part rest (4 * m) e) ∙ sym (cells_numbered rest n 0) in
+    let both : all_cells (part ++ rest) ≡ cells_at (part ++ rest) 0 m ++ cells_at (part ++ rest) m n =
+    ap (cells_at (part ++ rest) 0) l ∙ cells_split (part ++ rest) 0 m n ∙ ap (λ a. cells_at (part ++ rest) 0 m ++ cells_at (part ++ rest) a n) (zero-add m) in
+    cc
+
+-- the first part, and what is left
+pub all_parts : (ws part rest : List ℕ) → ws ≡ part ++ rest → length part ≡ min 4096 (length ws) → all_cells ws ≡ all_cells part ++ all_cells rest
 unfolding cells_at
-put_none t ws i = removed_none t i 0 refl
+all_parts ws part rest e h =
+    let n = ap length e ∙ length-append part rest in
+    elim (cases_lt (length ws) 4096) [
+      | inl short ↦ let none : rest ≡ [] = nil_from_length rest (omega arith) in ap all_cells (e ∙ ap (λ r. part ++ r) none ∙ append-nil part) ∙ sym (append-nil (all_cells part)) ∙ ap (λ r. all_cells part ++ all_cells r) (sym none)
+      | inr long ↦ let whole : length part % 4 ≡ 0 = omega arith in ap all_cells e ∙ all_append part rest whole
+    ]
 
 -- a text with cells put in
-pub length_put : (t new : List Cell) (i : ℕ) → i ≤ length t → length (replaced t i 0 new) ≡ length t + length new
+pub length_put : (t new : List Cell) (i : ℕ) → i ≤ length t → length (take i t ++ (new ++ drop i t)) ≡ length t + length new
 length_put t new i l = simp (length-append, length-take-le i t l, length-drop) (omega arith)
 
 -- and more put in behind them
-pub put_more : (t t' : List Cell) (ws : List ℕ) (i done more : ℕ) → i ≤ length t → t' ≡ replaced t i 0 (cells_at ws 0 done)
-    → take (i + done) t' ++ (cells_at ws done more ++ drop (i + done) t') ≡ replaced t i 0 (cells_at ws 0 (done + more))
-put_more t t' ws i done more l e =
-    let n = length_cells ws 0 done in
-    let a : cells_at ws 0 (done + more) ≡ cells_at ws 0 done ++ cells_at ws done more = cells_split ws 0 done more ∙ ap (λ x. cells_at ws 0 done ++ cells_at ws x more) (zero-add done) in
-    let j : i + done ≡ i + length (cells_at ws 0 done) = omega arith in
-    let b = replaced_twice t (cells_at ws 0 done) (cells_at ws done more) i (i + done) l j in
-    let d = sym (put_text t' (cells_at ws done more) (i + done) (i + done) refl) in
+pub put_more : (t t' old new : List Cell) (i at : ℕ) → i ≤ length t → at ≡ i + length old → t' ≡ take i t ++ (old ++ drop i t)
+    → take at t' ++ (new ++ drop at t') ≡ take i t ++ ((old ++ new) ++ drop i t)
+put_more t t' old new i at l e is =
+    let s : t' ≡ (take i t ++ old) ++ drop i t = is ∙ sym (append_assoc (take i t) old (drop i t)) in
+    let n : length (take i t ++ old) ≡ at = omega (arith, length-append (take i t) old, length-take-le i t l) in
+    let a : take at t' ≡ take i t ++ old = ap (take at) s ∙ take_at (take i t ++ old) (drop i t) at n in
+    let d : drop at t' ≡ drop i t = ap (drop at) s ∙ drop_at (take i t ++ old) (drop i t) at n in
+    let x = append_assoc (take i t) old (new ++ drop i t) in
+    let y = append_assoc old new (drop i t) in
     cc
 
 -- cells taken out, and others put in there
-pub run_put : (t t' : List Cell) (ws : List ℕ) (i k n : ℕ) → i ≤ length t → t' ≡ take i t ++ drop (i + k) t
-    → take i t' ++ (cells_at ws 0 n ++ drop i t') ≡ run_back i k (cells_read n ws) t
+pub run_put : (t t' old : List Cell) (i k : ℕ) → i ≤ length t → t' ≡ take i t ++ drop (i + k) t → take i t' ++ (old ++ drop i t') ≡ run_back i k old t
 unfolding run_back
-run_put t t' ws i k n l e =
+run_put t t' old i k l e =
     let m = length-take-le i t l in
     let a = take_at (take i t) (drop (i + k) t) i m in
     let b = drop_at (take i t) (drop (i + k) t) i m in
-    let r = cells_read_is ws n in
     cc
 
 pub length_taken_out : (t : List Cell) (i k : ℕ) → i + k ≤ length t → length (take i t ++ drop (i + k) t) + k ≡ length t

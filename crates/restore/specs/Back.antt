@@ -1,23 +1,28 @@
 -- What taking an entry of the log back makes of the cells, and what it needs. Definitions only: nothing is assumed.
-use Rattle.std.specs.Prelude.{ℕ, ◌+◌, ◌-◌, ◌*◌, ◌≤◌, Bool, List, [], length, slice_index}
+use Rattle.std.specs.Prelude.{ℕ, ◌+◌, ◌-◌, ◌*◌, ◌/◌, ◌≤◌, Bool, List, [], length, slice_index}
 use Rattle.model.specs.Paper.{Cell, Change}
-use Rattle.pieces.specs.Store.{cells_of, Edited}
+use Rattle.model.specs.declared.verdict.Verdict.{Verdict}
+use Rattle.model.specs.declared.verdict.Verdict.TheVariants.{Accepted, Rejected}
+use Rattle.pieces.specs.Text.{Rewrites, cells_of_mut}
+use Rattle.pieces.specs.declared.text.TextMut.{TextMut}
 use Rattle.history.specs.Entry.{Mark, Entry, goes_accepted, goes_rejected, run_back, marks_back, Placed, UndoCan, undo_of}
 use Rattle.history.specs.Words.{cells_read, marks_read, entry_size, EntryAt}
 use Rattle.history.specs.declared.entry.Head.{Head}
 use Rattle.history.specs.declared.entry.Kind.{Kind}
 use Rattle.history.specs.declared.entry.Kind.TheVariants.{Put, Strike, Accept, Reject, Style}
-use Rattle.restore.specs.declared.Decision.{Decision}
-use Rattle.restore.specs.declared.Decision.TheVariants.{Accepted, Rejected}
 
 -- whether a cell went when change number c was decided
-abbrev pub goes : Decision → ℕ → Cell → Bool
+abbrev pub goes : Verdict → ℕ → Cell → Bool
 goes Accepted c = goes_accepted c
 goes Rejected c = goes_rejected c
 
 -- the mark in the first five words
 abbrev pub first_mark : List ℕ → Mark
 first_mark ws = record { place = slice_index ws 0; cell = record { letter = slice_index ws 1; style = slice_index ws 2; put_in = slice_index ws 3; struck = slice_index ws 4 } }
+
+-- the marks whose words there are
+abbrev pub marks_in : List ℕ → List Mark
+marks_in ws = marks_read (length ws / 5) ws
 
 -- each of these marks has its place in the text xs when its turn comes, and the text with those that went fits s slots
 pub record CanMark (went : Cell → Bool) (ms : List Mark) (xs : List Cell) (s : ℕ) : Type 0 where
@@ -59,7 +64,7 @@ pub record Undoable (u : List ℕ) (a : ℕ) (xs : List Cell) (s : ℕ) : Type 0
   pub can : UndoCan entry (record { cells = xs; changes = changes })
   pub fits : length (undo_of entry (record { cells = xs; changes = changes })).cells ≤ 768 * (s - 1)
 
--- The entry that stands in the words u at place a is undone on the text, from c and p to d and q. What it makes of the changes is not kept here.
-abbrev pub Undone : List ℕ → ℕ → List ℕ → List ℕ → List ℕ → List ℕ → ℕ → Type 0
-Undone u a c p d q s =
-    (e : Entry) (cs : List Change) → EntryAt u a e → Edited c p d q s (undo_of e (record { cells = cells_of c p s; changes = cs })).cells
+-- The entry that stands in the words u at place a is undone on the text, and the same memory holds it. What it makes of the changes is not kept here.
+abbrev pub Undone : List ℕ → ℕ → TextMut → TextMut → Type 0
+Undone u a old new =
+    (e : Entry) (cs : List Change) → EntryAt u a e → Rewrites old new (undo_of e (record { cells = cells_of_mut old; changes = cs })).cells

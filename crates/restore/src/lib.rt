@@ -1,144 +1,111 @@
-// Takes back, on the store of cells, what an entry of the undo log says: `c` has the cells and `p` the tables of a store of `s` slots, `u` has the log's
-// words and is only read.
+// Takes back, on a text, what an entry of the undo log says: `u` has the log's words and is only read.
 #![tactic(auto)]
 
-ghost use Rattle.std.specs.Prelude.{◌≡◌, ◌+◌, ◌-◌, ◌*◌, ◌≤◌, ◌++◌, length, take, drop};
+ghost use Rattle.std.specs.Prelude.{◌≡◌, ◌+◌, ◌-◌, ◌*◌, ◌/◌, ◌≤◌, ◌++◌, length, take, drop};
 ghost use Rattle.model.specs.Paper.{pick};
 ghost use Rattle.model.specs.Values.{cell_of};
-ghost use Rattle.slots.specs.Cells.{cells_at};
-ghost use Rattle.pieces.specs.Store.{cells_of, Edited, Store};
+ghost use Rattle.slots.specs.Cells.{all_cells};
+ghost use Rattle.pieces.specs.Text.{Rewrites, cells_of_mut};
 ghost use Rattle.history.specs.Entry.{run_back, mark_back, marks_back};
-ghost use Rattle.history.specs.Words.{cells_read, marks_read};
-ghost use Rattle.restore.specs.Back.{goes, first_mark, taken_back, CanMark, CanTakeBack, Undoable, Undone};
+ghost use Rattle.restore.specs.Back.{goes, first_mark, marks_in, taken_back, CanMark, CanTakeBack, Undoable, Undone};
 
-use history::entry::{Head, Kind};
-use model::Cell;
+use history::entry::{self, Head, Kind};
+use model::{Cell, Verdict};
+use pieces::TextMut;
 
-// How many words the head of an entry has: its letters, cells or marks follow.
-const HEAD: usize = 7;
+// How many words a cell has, and a mark: its place before the cell.
+const CELL: usize = 4;
 
-// How many cells the store takes at once.
-const MOST: usize = 1024;
+const MARK: usize = 5;
 
-// What became of a change.
-#[derive(Clone, Copy)]
-enum Decision {
-    Accepted,
-    Rejected,
-}
+// How many words of cells the text takes at once.
+const MOST: usize = 4096;
 
-// Puts the first `n` cells of `old` into the text at `place`.
-fn put_back(c: &mut [u32], p: &mut [u32], s: usize, place: usize, old: &[u32], n: usize)
-    requires store { Store c.old p.old s }
-    requires place { place ≤ length (cells_of c.old p.old s) }
-    requires source { 4 * n ≤ length old.now }
-    requires fits { length (cells_of c.old p.old s) + n ≤ 768 * (s - 1) }
-    ensures { Edited c.old p.old c.new p.new s (take place (cells_of c.old p.old s) ++ (cells_at old.now 0 n ++ drop place (cells_of c.old p.old s))) }
+// Puts the cells whose words `old` has into the text at `place`.
+fn put_back(text: &mut TextMut, place: usize, old: &[u32])
+    requires place { place ≤ length (cells_of_mut text.old) }
+    requires fits { length (cells_of_mut text.old) + length old.now / 4 ≤ 768 * (text.old.slots - 1) }
+    ensures { Rewrites text.old text.new (take place (cells_of_mut text.old) ++ (all_cells old.now ++ drop place (cells_of_mut text.old))) }
 {
-    let mut done = 0;
-    while done < n {
-        let more = (n - done).min(MOST);
-        pieces::insert(c, p, s, place + done, old, done, more);
-        done += more;
+    let mut at = place;
+    for part in old.chunks(MOST) {
+        text.insert(at, part);
+        at += part.len() / CELL;
     }
 }
 
-// In place of the `standing` cells from `place` on come the `n` cells whose words stand in `u` from word `from` on.
-fn run(
-    c: &mut [u32],
-    p: &mut [u32],
-    s: usize,
-    u: &[u32],
-    from: usize,
-    place: usize,
-    standing: usize,
-    n: usize,
-)
-    requires store { Store c.old p.old s }
-    requires within { place + standing ≤ length (cells_of c.old p.old s) }
-    requires source { from + 4 * n ≤ length u.now }
-    requires fits { length (cells_of c.old p.old s) + n ≤ 768 * (s - 1) + standing }
-    ensures { Edited c.old p.old c.new p.new s (run_back place standing (cells_read n (drop from u.now)) (cells_of c.old p.old s)) }
+// In place of the `standing` cells from `place` on come those whose words `old` has.
+fn run(text: &mut TextMut, place: usize, standing: usize, old: &[u32])
+    requires within { place + standing ≤ length (cells_of_mut text.old) }
+    requires fits { length (cells_of_mut text.old) + length old.now / 4 ≤ 768 * (text.old.slots - 1) + standing }
+    ensures { Rewrites text.old text.new (run_back place standing (all_cells old.now) (cells_of_mut text.old)) }
 {
-    pieces::remove(c, p, s, place, standing);
-    put_back(c, p, s, place, &u[from..], n);
+    text.remove(place, standing);
+    put_back(text, place, old);
 }
 
 // Whether the cell went when the change was decided.
-fn went(cell: Cell, decision: Decision, change: u32) -> bool
-    ensures { result ≡ goes decision change (cell_of cell) }
+fn went(cell: Cell, verdict: Verdict, change: u32) -> bool
+    ensures { result ≡ goes verdict change (cell_of cell) }
 {
-    let mark = match decision {
-        Decision::Accepted => cell.struck,
-        Decision::Rejected => cell.put_in,
+    let mark = match verdict {
+        Verdict::Accepted => cell.struck,
+        Verdict::Rejected => cell.put_in,
     };
     mark as u64 == change as u64 + 1
 }
 
-// One mark, at the beginning of `u`: a cell that went is put in again at its place, one that stayed is overwritten there.
-fn mark(c: &mut [u32], p: &mut [u32], s: usize, u: &[u32], decision: Decision, change: u32)
-    requires store { Store c.old p.old s }
-    requires source { 5 ≤ length u.now }
-    requires place { (first_mark u.now).place + pick (goes decision change (first_mark u.now).cell) 0 1 ≤ length (cells_of c.old p.old s) }
-    requires fits { length (cells_of c.old p.old s) + pick (goes decision change (first_mark u.now).cell) 1 0 ≤ 768 * (s - 1) }
-    ensures { Edited c.old p.old c.new p.new s (mark_back (goes decision change (first_mark u.now).cell) (first_mark u.now) (cells_of c.old p.old s)) }
+// One mark, by its five words: a cell that went is put in again at its place, one that stayed is overwritten there.
+fn mark(text: &mut TextMut, words: &[u32], verdict: Verdict, change: u32)
+    requires source { length words.now ≡ 5 }
+    requires place { (first_mark words.now).place + pick (goes verdict change (first_mark words.now).cell) 0 1 ≤ length (cells_of_mut text.old) }
+    requires fits { length (cells_of_mut text.old) + pick (goes verdict change (first_mark words.now).cell) 1 0 ≤ 768 * (text.old.slots - 1) }
+    ensures { Rewrites text.old text.new (mark_back (goes verdict change (first_mark words.now).cell) (first_mark words.now) (cells_of_mut text.old)) }
 {
-    let place = u[0] as usize;
-    let cell = slots::read(&u[1..], 0);
-    if went(cell, decision, change) {
-        pieces::insert(c, p, s, place, &u[1..], 0, 1);
+    let place = words[0] as usize;
+    let old = &words[1..];
+    let cell = slots::read(old, 0);
+    if went(cell, verdict, change) {
+        text.insert(place, old);
         return;
     }
-    let spot = pieces::locate(p, s, place);
-    pieces::overwrite(c, p, s, spot.piece, spot.offset, cell);
+    let spot = text.text().locate(place);
+    text.overwrite(spot, cell);
 }
 
-// The `n` marks whose words stand in `u` from word `from` on, one after another.
-fn marks(
-    c: &mut [u32],
-    p: &mut [u32],
-    s: usize,
-    u: &[u32],
-    from: usize,
-    n: usize,
-    decision: Decision,
-    change: u32,
-)
-    requires store { Store c.old p.old s }
-    requires source { from + 5 * n ≤ length u.now }
-    requires can { CanMark (goes decision change) (marks_read n (drop from u.now)) (cells_of c.old p.old s) s }
-    ensures { Edited c.old p.old c.new p.new s (marks_back (goes decision change) (marks_read n (drop from u.now)) (cells_of c.old p.old s)) }
+// The marks whose words there are, one after another.
+fn marks(text: &mut TextMut, words: &[u32], verdict: Verdict, change: u32)
+    requires { CanMark (goes verdict change) (marks_in words.now) (cells_of_mut text.old) text.old.slots }
+    ensures { Rewrites text.old text.new (marks_back (goes verdict change) (marks_in words.now) (cells_of_mut text.old)) }
 {
-    for i in 0..n {
-        mark(c, p, s, &u[from + 5 * i..], decision, change);
+    for part in words.chunks_exact(MARK) {
+        mark(text, part, verdict, change);
     }
 }
 
-// What the entry with this head did to the cells is taken back. Its letters, cells or marks stand in `u` from word `from` on.
-fn take_back(c: &mut [u32], p: &mut [u32], s: usize, u: &[u32], from: usize, head: Head)
-    requires store { Store c.old p.old s }
+// What the entry with this head did to the cells is taken back. `words` begins with its letters, cells or marks.
+fn take_back(text: &mut TextMut, head: Head, words: &[u32])
     requires some { 1 ≤ head.count }
-    requires source { from ≤ length u.now }
-    requires can { CanTakeBack head.kind head (drop from u.now) (cells_of c.old p.old s) s }
-    ensures { Edited c.old p.old c.new p.new s (taken_back head.kind head (drop from u.now) (cells_of c.old p.old s)) }
+    requires can { CanTakeBack head.kind head words.now (cells_of_mut text.old) text.old.slots }
+    ensures { Rewrites text.old text.new (taken_back head.kind head words.now (cells_of_mut text.old)) }
 {
     let n = head.count as usize - 1;
     let place = head.place as usize;
     let standing = head.standing as usize;
     match head.kind {
-        Kind::Put => pieces::remove(c, p, s, place, standing),
-        Kind::Strike | Kind::Style => run(c, p, s, u, from, place, standing, n),
-        Kind::Accept => marks(c, p, s, u, from, n, Decision::Accepted, head.who),
-        Kind::Reject => marks(c, p, s, u, from, n, Decision::Rejected, head.who),
+        Kind::Put => text.remove(place, standing),
+        Kind::Strike | Kind::Style => run(text, place, standing, &words[..CELL * n]),
+        Kind::Accept => marks(text, &words[..MARK * n], Verdict::Accepted, head.who),
+        Kind::Reject => marks(text, &words[..MARK * n], Verdict::Rejected, head.who),
     }
 }
 
 // The entry that stands in `u` at word `at` is undone, as far as it is about cells: the changes are the caller's.
-pub fn undo(c: &mut [u32], p: &mut [u32], s: usize, u: &[u32], at: usize)
-    requires store { Store c.old p.old s }
-    requires undoable { Undoable u.now at (cells_of c.old p.old s) s }
-    ensures { Undone u.now at c.old p.old c.new p.new s }
+// A place beside the words, as the log's steps tell it.
+pub fn undo(text: &mut TextMut, u: &[u32], at: usize)
+    requires { Undoable u.now at (cells_of_mut text.old) text.old.slots }
+    ensures { Undone u.now at text.old text.new }
 {
-    let head = history::entry::read_head(u, at);
-    take_back(c, p, s, u, at + HEAD, head);
+    let head = entry::read_head(u, at);
+    take_back(text, head, &u[at + entry::HEAD..]);
 }

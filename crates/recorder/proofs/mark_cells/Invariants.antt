@@ -4,4 +4,4 @@ use Rattle.recorder.specs.Records.{MarkedAt}
 use Rattle.recorder.proofs.mark_cells.Given as goal
 
 abbrev pub invariant-loop-i : goal.invariant-loop-i
-invariant-loop-i l = MarkedAt l.initial.u l.u l.to (cells_at l.c l.from l.i) l.change l.first l.found
+invariant-loop-i l = MarkedAt l.initial.u l.u l.to (cells_at l.cells 0 l.i) l.change l.first l.found

@@ -12,44 +12,44 @@ loop-k-init c = (marked_none c.args.u.now c.args.to c.args.change 0, refl)
 
 pub overflow_mul-found : goal.overflow_mul-found
 overflow_mul-found c =
-    let r = text_room c.args.c.now c.args.p.now c.args.s c.loop-k.k c.args.change (omega arith) in
+    let r = text_room c.args.text.now.cells.now c.args.text.now.tables.now c.args.text.now.slots c.loop-k.k c.args.change (omega arith) in
     omega (arith, c.requires.target, c.loop-k.invariant.0.count)
 
 pub overflow_add-to : goal.overflow_add-to
 overflow_add-to c =
-    let r = text_room c.args.c.now c.args.p.now c.args.s c.loop-k.k c.args.change (omega arith) in
+    let r = text_room c.args.text.now.cells.now c.args.text.now.tables.now c.args.text.now.slots c.loop-k.k c.args.change (omega arith) in
     omega (arith, c.requires.target, c.loop-k.invariant.0.count)
 
 pub mark_piece-found-requires : goal.mark_piece-found-requires
 mark_piece-found-requires c =
     let inv = c.loop-k.invariant in
-    let order = c.requires.store.table.order in
-    let small = before_small c.args.p.now c.args.s order c.loop-k.k (omega arith) in
-    let r = text_room c.args.c.now c.args.p.now c.args.s c.loop-k.k c.args.change (omega arith) in
-    record { mark = c.requires.mark; store = c.requires.store; here = omega arith; low = omega (arith, inv.1); target = omega (arith, c.requires.target, inv.0.count, c.loop-k.auto.u) }
+    let order = c.args.text.now.store.table.order in
+    let small = before_small c.args.text.now.tables.now c.args.text.now.slots order c.loop-k.k (omega arith) in
+    let r = text_room c.args.text.now.cells.now c.args.text.now.tables.now c.args.text.now.slots c.loop-k.k c.args.change (omega arith) in
+    record { mark = c.requires.mark; here = omega arith; low = omega (arith, inv.1); target = omega (arith, c.requires.target, inv.0.count, c.loop-k.auto.u) }
 
 pub overflow_add-found : goal.overflow_add-found
 overflow_add-found c =
-    let r = text_room c.args.c.now c.args.p.now c.args.s c.loop-k.k c.args.change (omega arith) in
+    let r = text_room c.args.text.now.cells.now c.args.text.now.tables.now c.args.text.now.slots c.loop-k.k c.args.change (omega arith) in
     omega (arith, c.requires.target, c.loop-k.invariant.0.count, c.mark_piece-found.ensures.count)
 
 pub overflow_add-first : goal.overflow_add-first
 overflow_add-first c =
-    let order = c.requires.store.table.order in
-    let small = before_small c.args.p.now c.args.s order c.loop-k.k (omega arith) in
+    let order = c.args.text.now.store.table.order in
+    let small = before_small c.args.text.now.tables.now c.args.text.now.slots order c.loop-k.k (omega arith) in
     let less = order.small c.loop-k.k (omega arith) in
     omega (arith, c.loop-k.invariant.1, c.used-first.ensures, order.most)
 
 pub loop-k-preserved : goal.loop-k-preserved
 loop-k-preserved c =
     let inv = c.loop-k.invariant in
-    let r = text_room c.args.c.now c.args.p.now c.args.s c.loop-k.k c.args.change (omega arith) in (
-      marked_next c.args.u.now c.loop-k.u c.mark_piece-found.new.u c.args.c.now c.args.p.now c.args.to c.loop-k.k c.args.change c.loop-k.first c.loop-k.found c.mark_piece-found.result
+    let r = text_room c.args.text.now.cells.now c.args.text.now.tables.now c.args.text.now.slots c.loop-k.k c.args.change (omega arith) in (
+      marked_next c.args.u.now c.loop-k.u c.mark_piece-found.new.u c.args.text.now.cells.now c.args.text.now.tables.now c.args.to c.loop-k.k c.args.change c.loop-k.first c.loop-k.found c.mark_piece-found.result
           inv.1 inv.0 c.mark_piece-found.ensures (omega (arith, c.requires.target)),
-      omega (arith, inv.1, c.used-first.ensures, before_more c.args.p.now c.loop-k.k),
+      omega (arith, inv.1, c.used-first.ensures, before_more c.args.text.now.tables.now c.loop-k.k),
     )
 
 pub returns : goal.returns
 returns c =
-    let e : c.loop-k.k ≡ c.args.s = omega arith in
+    let e : c.loop-k.k ≡ c.args.text.now.slots = omega arith in
     rw (← e) c.loop-k.invariant.0.words

@@ -5,4 +5,4 @@ use Rattle.recorder.specs.Records.{MarkedAt}
 use Rattle.recorder.proofs.mark_text.Given as goal
 
 abbrev pub invariant-loop-k : goal.invariant-loop-k
-invariant-loop-k l = MarkedAt l.initial.u l.u l.to (pieces_from l.c l.p 0 l.k) l.change 0 l.found × (l.first ≡ before l.p l.k)
+invariant-loop-k l = MarkedAt l.initial.u l.u l.to (pieces_from l.text.cells.now l.text.tables.now 0 l.k) l.change 0 l.found × (l.first ≡ before l.text.tables.now l.k)

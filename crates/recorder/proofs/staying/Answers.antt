@@ -1,27 +1,46 @@
 -- One cell more.
-use Rattle.std.proofs.Common.{refl, ap, ◌∙◌, arith}
-use Rattle.std.proofs.lemmas.List.{take_all}
-use Rattle.changes.specs.Row.{changes_of}
-use Rattle.history.specs.Entry as entry
-use Rattle.recorder.proofs.Runs.{staying_with, staying_without}
+use Rattle.std.proofs.Common.{rules, ℕ, ◌+◌, sym, ap, ◌∙◌, length, arith}
+use Rattle.std.proofs.lemmas.List.{length-append}
+use Rattle.std.specs.Slice.Iter.{chunks_exact_rest}
+use Rattle.changes.specs.Rows.{changes_in}
+use Rattle.model.specs.Paper.{pick}
+use Rattle.recorder.proofs.Runs.{counting_more, counting_all}
 use Rattle.recorder.proofs.staying.Goals as goal
-use Rattle.recorder.proofs.staying.Goals.{then-not-is_of, else-not-is_of}
 
-pub loop-i-init : goal.loop-i-init
-unfolding entry.staying
-loop-i-init c = (omega arith, λ xs l h. refl)
+pub loop-cell-init : goal.loop-cell-init
+loop-cell-init c = (search rules, tt, search rules, search rules, λ xs e. (xs, search rules, search rules))
 
-pub loop-i-preserved : goal.loop-i-preserved
-loop-i-preserved c =
-    let cs = changes_of c.args.changes.now c.args.row in
-    let inv = c.loop-i.invariant in
-    elim c.if-not-is_of.branch [
-      | then-not-is_of w ↦
-          (omega (arith, inv.0, w.stay-is), λ xs l h. w.stay-is ∙ staying_with c.args.u.now c.args.to c.loop-i.i xs cs c.args.author c.is_of.result c.loop-i.stay h (omega arith) c.is_of.ensures w.if-not-is_of.true (inv.1 xs l h))
-      | else-not-is_of w ↦
-          (omega (arith, inv.0, w.stay-is), λ xs l h. w.stay-is ∙ staying_without c.args.u.now c.args.to c.loop-i.i xs cs c.args.author c.is_of.result c.loop-i.stay h (omega arith) c.is_of.ensures w.if-not-is_of.false (inv.1 xs l h))
-    ]
+pub loop-cell-preserved-then-not-is_of : goal.loop-cell-preserved-then-not-is_of
+loop-cell-preserved-then-not-is_of c =
+    let steps = c.in-Some.ensures.steps in
+    let inv = c.loop-cell.invariant in
+    let long = ap length steps.1.0 in
+    let parts = length-append c.in-Some.cell.now (chunks_exact_rest c.next.new.self) in
+    let four = steps.1.1 ∙ inv.2 in (
+      search rules,
+      tt,
+      steps.0 ∙ inv.2,
+      omega arith,
+      counting_more c.args.words.now _ c.in-Some.cell.now (chunks_exact_rest c.next.new.self) (changes_in c.args.row.now) c.args.author c.loop-cell.stay _ c.is_of.result
+          steps.1.0 four c.is_of.ensures (ap (λ b. c.loop-cell.stay + pick {A = ℕ} b 0 1) (sym c.if-not-is_of.true)) inv.4,
+    )
+
+pub loop-cell-preserved : goal.loop-cell-preserved
+loop-cell-preserved c =
+    let steps = c.in-Some.ensures.steps in
+    let inv = c.loop-cell.invariant in
+    let long = ap length steps.1.0 in
+    let parts = length-append c.in-Some.cell.now (chunks_exact_rest c.next.new.self) in
+    let four = steps.1.1 ∙ inv.2 in (
+      search rules,
+      tt,
+      steps.0 ∙ inv.2,
+      omega arith,
+      counting_more c.args.words.now _ c.in-Some.cell.now (chunks_exact_rest c.next.new.self) (changes_in c.args.row.now) c.args.author c.loop-cell.stay _ c.is_of.result
+          steps.1.0 four c.is_of.ensures (omega (arith, ap (λ b. pick {A = ℕ} b 0 1) c.if-not-is_of.false)) inv.4,
+    )
 
 pub returns : goal.returns
-returns c = λ xs l h.
-    c.loop-i.invariant.1 xs l h ∙ ap (λ ys. entry.staying ys (changes_of c.args.changes.now c.args.row) c.args.author) (take_all c.loop-i.i xs (omega arith))
+returns c =
+    let inv = c.loop-cell.invariant in
+    counting_all c.args.words.now _ (changes_in c.args.row.now) c.args.author c.loop-cell.stay (omega (arith, c.in-None.ensures.steps.1.0, inv.2)) inv.4

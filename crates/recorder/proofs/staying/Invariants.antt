@@ -1,12 +1,14 @@
--- Of the cells so far.
-use Rattle.std.proofs.Common.{◌≡◌, ◌+◌, ◌≤◌, List, length, take}
-use Rattle.std.specs.List.{between}
-use Rattle.changes.specs.Row.{changes_of}
-use Rattle.model.specs.Paper.{Cell, cells_written}
-use Rattle.history.specs.Entry as entry
+-- Those so far, and those that are to be counted.
+use Rattle.std.proofs.Common.{◌≡◌, ◌+◌, ◌*◌, ◌≤◌, length}
+use Rattle.std.specs.Slice.Iter.{chunks_exact_rest, chunks_exact_size}
+use Rattle.changes.specs.Rows.{changes_in}
+use Rattle.recorder.proofs.Runs.{Counting}
 use Rattle.recorder.proofs.staying.Given as goal
 
-abbrev pub invariant-loop-i : goal.invariant-loop-i
-invariant-loop-i l =
-    (l.stay ≤ l.i)
-    × ((xs : List Cell) → length xs ≡ l.n → between l.to (l.to + length (cells_written xs)) l.u ≡ cells_written xs → l.stay ≡ entry.staying (take l.i xs) (changes_of l.changes l.row) l.author)
+abbrev pub invariant-loop-cell : goal.invariant-loop-cell
+invariant-loop-cell l =
+    goal.iterator-loop-cell.can_next l.cell-iterator
+    × goal.iterator-loop-cell.is_finite l.cell-iterator
+    × (chunks_exact_size l.cell-iterator ≡ 4)
+    × (l.stay + length (chunks_exact_rest l.cell-iterator) ≤ length l.words)
+    × Counting l.words (chunks_exact_rest l.cell-iterator) (changes_in l.row) l.author l.stay

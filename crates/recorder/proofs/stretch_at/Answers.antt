@@ -1,7 +1,25 @@
--- The cells of the piece where the place is.
+-- As far as the piece goes.
+use Rattle.std.proofs.Common.{arith}
+use Rattle.pieces.proofs.Texts.{length_text}
 use Rattle.recorder.proofs.Runs.{stretched}
 use Rattle.recorder.proofs.stretch_at.Goals as goal
 
+pub locate-spot-requires : goal.locate-spot-requires
+locate-spot-requires c =
+    let t = c.args.text.now in
+    omega (arith, c.requires.some, c.requires.within, length_text t.cells.now t.tables.now t.slots)
+
+pub part-requires : goal.part-requires
+part-requires c =
+    let t = c.args.text.now in
+    let f = c.locate-spot.ensures in
+    let k = c.locate-spot.result.piece in
+    let inside = t.store.table.order.inside k f.here in
+    let small = t.store.table.order.small k f.here in
+    omega (arith, t.store.room, f.within, c.used.ensures, c.number_of-from.ensures, c.min.ensures)
+
 pub returns : goal.returns
-returns c = λ cells store. stretched cells c.args.p.now c.args.s c.args.place c.args.most c.locate-spot.result.piece c.locate-spot.result.offset
-    c.used.result c.number_of.result c.min.result store c.locate-spot.ensures c.used.ensures c.number_of.ensures c.requires.some c.min.ensures
+returns c =
+    let t = c.args.text.now in
+    stretched t.cells.now t.tables.now t.slots c.args.place c.args.most c.locate-spot.result.piece c.locate-spot.result.offset _ c.number_of-from.result _ c.part.result.now
+    t.store c.locate-spot.ensures c.used.ensures c.number_of-from.ensures c.requires.some c.min.ensures c.part.ensures.cells c.part.ensures.long

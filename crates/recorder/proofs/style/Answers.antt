@@ -2,7 +2,7 @@
 use Rattle.std.proofs.Common.{◌+◌, [], arith}
 use Rattle.model.specs.Paper.{Paper}
 use Rattle.model.specs.Calls.{styles}
-use Rattle.pieces.specs.Store.{cells_of}
+use Rattle.pieces.specs.Text.{cells_in}
 use Rattle.history.specs.Entry.{entry_of}
 use Rattle.recorder.proofs.Entries.{styled_words, styled_counts, styled_head}
 use Rattle.recorder.proofs.Runs.{text_small}
@@ -10,13 +10,13 @@ use Rattle.recorder.proofs.Sealing.{too_much, roomed_inside, ready, recorded, re
 use Rattle.recorder.proofs.style.Goals as goal
 
 pub overflow_add-n : goal.overflow_add-n
-overflow_add-n c = omega (arith, c.requires.within, text_small c.args.c.now c.args.p.now c.args.s c.requires.store.table.order)
+overflow_add-n c = omega (arith, c.requires.within, text_small c.args.text.now.cells.now c.args.text.now.tables.now c.args.text.now.slots c.args.text.now.store.table.order)
 
 pub returns-in_default : goal.returns-in_default
 returns-in_default c =
     record {
       records = λ cs.
-          let p : Paper = record { cells = cells_of c.args.c.now c.args.p.now c.args.s; changes = cs } in
+          let p : Paper = record { cells = cells_in c.args.text.now; changes = cs } in
           too_much c.args.u.now c.make_room.new.u c.args.limit (1 + c.args.n) (entry_of p (styles c.args.place c.args.n c.args.style))
           (styled_counts p c.args.place c.args.n c.requires.within c.args.style) c.in_default.ensures.room;
       rest = c.make_room.ensures.rest;
@@ -24,26 +24,26 @@ returns-in_default c =
 
 pub copy_text-requires : goal.copy_text-requires
 copy_text-requires c =
-    let r = roomed_inside c.args.u.now c.make_room.new.u c.args.limit (1 + c.args.n) c.in-Some.to c.requires.log c.in-Some.ensures.room in
-    record { store = c.requires.store; within = c.requires.within; target = omega (arith, r.0) }
+    let r = roomed_inside c.args.u.now c.make_room.new.u c.args.limit (1 + c.args.n) c.in-Some.at c.requires.log c.in-Some.ensures.room in
+    record { within = c.requires.within; target = omega (arith, r.0) }
 
 pub seal-requires : goal.seal-requires
 seal-requires c =
-    let p : Paper = record { cells = cells_of c.args.c.now c.args.p.now c.args.s; changes = [] } in
-    ready c.args.u.now c.make_room.new.u c.copy_text.new.u c.args.limit c.in-Some.to _ (entry_of p (styles c.args.place c.args.n c.args.style)) _
+    let p : Paper = record { cells = cells_in c.args.text.now; changes = [] } in
+    ready c.args.u.now c.make_room.new.u c.copy_text.new.u c.args.limit c.in-Some.at _ (entry_of p (styles c.args.place c.args.n c.args.style)) _
     c.requires.log c.in-Some.ensures.room (styled_head p c.args.place c.args.n c.requires.within c.args.style) (styled_words p c.args.place c.args.n c.args.style) c.copy_text.ensures
 
 pub returns : goal.returns
 returns c =
     record {
       records = λ cs.
-          let p : Paper = record { cells = cells_of c.args.c.now c.args.p.now c.args.s; changes = cs } in
-          recorded c.args.u.now c.make_room.new.u c.copy_text.new.u c.args.limit c.in-Some.to _ (entry_of p (styles c.args.place c.args.n c.args.style)) _
+          let p : Paper = record { cells = cells_in c.args.text.now; changes = cs } in
+          recorded c.args.u.now c.make_room.new.u c.copy_text.new.u c.args.limit c.in-Some.at _ (entry_of p (styles c.args.place c.args.n c.args.style)) _
           c.requires.log c.in-Some.ensures.room (styled_head p c.args.place c.args.n c.requires.within c.args.style) (styled_words p c.args.place c.args.n c.args.style) c.copy_text.ensures
           c.seal.new.u c.seal.ensures.seals;
       rest =
-          let p : Paper = record { cells = cells_of c.args.c.now c.args.p.now c.args.s; changes = [] } in
-          rest_recorded c.args.u.now c.make_room.new.u c.copy_text.new.u c.args.limit c.in-Some.to _ (entry_of p (styles c.args.place c.args.n c.args.style)) _
+          let p : Paper = record { cells = cells_in c.args.text.now; changes = [] } in
+          rest_recorded c.args.u.now c.make_room.new.u c.copy_text.new.u c.args.limit c.in-Some.at _ (entry_of p (styles c.args.place c.args.n c.args.style)) _
           c.requires.log c.in-Some.ensures.room (styled_head p c.args.place c.args.n c.requires.within c.args.style) (styled_words p c.args.place c.args.n c.args.style) c.copy_text.ensures
           c.seal.new.u c.make_room.ensures.rest c.seal.ensures.rest;
     }

@@ -1,27 +1,35 @@
-use Rattle.std.proofs.Common.{◌+◌, ◌*◌, ◌≤◌, length, drop, arith}
-use Rattle.std.proofs.lemmas.List.{take_rest, length-drop}
+use Rattle.std.proofs.Common.{rules, ◌∙◌, arith}
+use Rattle.std.specs.Slice.Iter.{chunks_exact_rest}
 use Rattle.restore.specs.Back.{goes}
-use Rattle.restore.proofs.Marking.{going_none, going_place, going_more, going_all}
+use Rattle.restore.proofs.Marking.{going_place, going_more, going_all}
 use Rattle.restore.proofs.marks.Goals as goal
 
-pub loop-i-init : goal.loop-i-init
-loop-i-init c =
-    going_none (goes c.args.decision c.args.change) c.args.u.now c.args.from c.args.n c.args.c.now c.args.p.now c.args.s c.requires.store c.requires.can
+pub mark-requires-clause-place : goal.mark-requires-clause-place
+mark-requires-clause-place c =
+    let steps = c.in-Some.ensures.steps in
+    let inv = c.loop-part.invariant in
+    (going_place (goes c.args.verdict c.args.change) c.args.words.now _ c.in-Some.part.now (chunks_exact_rest c.next.new.self) c.args.text.now c.loop-part.text
+    steps.1.0 (steps.1.1 ∙ inv.2) inv.3).0
 
-pub mark-requires : goal.mark-requires
-mark-requires c =
-    let so = c.requires.source in
-    let lt = c.loop-i-test.true in
-    let g = going_place (goes c.args.decision c.args.change) c.args.u.now c.args.from c.args.n c.loop-i.i c.args.c.now c.args.p.now c.loop-i.c c.loop-i.p c.args.s lt c.loop-i.invariant in
-    let l : 5 ≤ length (drop (c.args.from + 5 * c.loop-i.i) c.args.u.now) = simp length-drop (omega arith) in
-    simp take_rest record { store = c.loop-i.invariant.store; source = l; place = g.0; fits = g.1 }
+pub mark-requires-clause-fits : goal.mark-requires-clause-fits
+mark-requires-clause-fits c =
+    let steps = c.in-Some.ensures.steps in
+    let inv = c.loop-part.invariant in
+    (going_place (goes c.args.verdict c.args.change) c.args.words.now _ c.in-Some.part.now (chunks_exact_rest c.next.new.self) c.args.text.now c.loop-part.text
+    steps.1.0 (steps.1.1 ∙ inv.2) inv.3).1
 
-pub loop-i-preserved : goal.loop-i-preserved
-loop-i-preserved c =
-    going_more (goes c.args.decision c.args.change) c.args.u.now c.args.from c.args.n c.loop-i.i c.args.c.now c.args.p.now c.loop-i.c c.loop-i.p c.args.s
-    c.loop-i-test.true c.loop-i.invariant c.mark.new.c c.mark.new.p (simp take_rest at c.mark.ensures)
+pub loop-part-preserved : goal.loop-part-preserved
+loop-part-preserved c =
+    let steps = c.in-Some.ensures.steps in
+    let inv = c.loop-part.invariant in (
+      search rules,
+      tt,
+      steps.0 ∙ inv.2,
+      going_more (goes c.args.verdict c.args.change) c.args.words.now _ c.in-Some.part.now (chunks_exact_rest c.next.new.self) c.args.text.now c.loop-part.text
+          steps.1.0 (steps.1.1 ∙ inv.2) inv.3 c.mark.new.text c.mark.ensures,
+    )
 
 pub returns : goal.returns
 returns c =
-    going_all (goes c.args.decision c.args.change) c.args.u.now c.args.from c.args.n c.loop-i.i c.args.c.now c.args.p.now c.loop-i.c c.loop-i.p c.args.s
-    c.loop-i-test.false c.loop-i.invariant
+    let inv = c.loop-part.invariant in
+    going_all (goes c.args.verdict c.args.change) c.args.words.now _ c.args.text.now c.loop-part.text (omega (arith, c.in-None.ensures.steps.1.0, inv.2)) inv.3

@@ -1,13 +1,11 @@
-use Rattle.std.proofs.Common.{◌-◌, ◌≤◌}
-use Rattle.slots.specs.Cells.{cells_at}
-use Rattle.pieces.specs.Store.{cells_of, Edited}
-use Rattle.pieces.specs.Edits.{replaced}
+use Rattle.std.proofs.Common.{◌≡◌}
+use Rattle.std.specs.Slice.Iter.{chunks_rest, chunks_size}
+use Rattle.restore.proofs.Putting.{Putting}
 use Rattle.restore.proofs.put_back.Given as goal
 
-abbrev pub invariant-loop-done : goal.invariant-loop-done
-invariant-loop-done l =
-    (l.done ≤ l.n)
-    × Edited l.initial.c l.initial.p l.c l.p l.s (replaced (cells_of l.initial.c l.initial.p l.s) l.place 0 (cells_at l.old 0 l.done))
-
-abbrev pub decreases-loop-done : goal.decreases-loop-done
-decreases-loop-done l = l.n - l.done
+abbrev pub invariant-loop-part : goal.invariant-loop-part
+invariant-loop-part l =
+    goal.iterator-loop-part.can_next l.part-iterator
+    × goal.iterator-loop-part.is_finite l.part-iterator
+    × (chunks_size l.part-iterator ≡ 4096)
+    × Putting l.old (chunks_rest l.part-iterator) l.place l.at l.initial.text l.text

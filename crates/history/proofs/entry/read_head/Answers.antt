@@ -5,5 +5,5 @@ use Rattle.history.proofs.entry.read_head.Goals as goal
 
 pub returns : goal.returns
 returns c =
-    let m = head_made c.args.u.now c.args.at c.kind_at.result c.kind_at.ensures in
+    let m = head_made c.args.u.now c.args.at c.from.result c.from.ensures in
     record { words = m; entry = λ e h. m ∙ head_reads c.args.u.now c.args.at e h }
