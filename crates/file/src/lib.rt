@@ -1,12 +1,11 @@
 // A paper's file: the numbers in a text, and the paper that some numbers are.
 #![tactic(auto)]
 
-ghost use Rattle.std.specs.Prelude.{◌≡◌, ◌+◌, ◌-◌, ◌*◌, ◌<◌, ◌≤◌, false, length, Some, None, Ok, Err, MatchBool, slice_index, slice_index_or};
+ghost use Rattle.std.specs.Prelude.{◌≡◌, ◌+◌, ◌-◌, ◌*◌, ◌<◌, ◌≤◌, length, Ok, Err, MatchBool, MatchOption, MatchResult, slice_index, slice_index_or};
 ghost use Rattle.file.specs.Laws.{OneWay, ReadsBack, WordsAre};
 ghost use Rattle.file.specs.Paper.{Ceases, IsFile, paper_of};
 ghost use Rattle.file.specs.Places.{MarkFits, NumberFits, last};
-ghost use Rattle.file.specs.Scan.{NoNumber, NumberAt, PastWhite};
-ghost use Rattle.file.specs.Words.{AllRead, Digit, Stops, white};
+ghost use Rattle.file.specs.Words.{AllRead, Digit, Stops, WordFits, value, white};
 ghost use Rattle.model.specs.Paper.{Cell as PaperCell, Change as PaperChange};
 ghost use Rattle.model.specs.Values.{cell_of, change_of};
 
@@ -17,92 +16,52 @@ const MAX_CHANGES: u32 = 128;
 const MAX_CELLS: usize = 2048;
 
 // How many changes and cells a paper has.
-#[derive(Clone, Copy)]
+#[derive(Clone, Copy, Debug, PartialEq, Eq, Hash)]
 pub struct Counts {
     pub changes: usize,
     pub cells: usize,
-}
-
-// A number in a text, and the place after its last digit.
-#[derive(Clone, Copy)]
-struct Number {
-    value: u32,
-    end: usize,
 }
 
 // Space, newline, carriage return, tab.
 fn is_white(c: u8) -> bool
     ensures { result ≡ white c }
 {
-    c == b' ' || c == b'\n' || c == b'\r' || c == b'\t'
-}
-
-// The first place from `start` on where there is no white space.
-fn past_white(text: &[u8], start: usize) -> usize
-    requires { start ≤ length text.now }
-    ensures { PastWhite text.now start result }
-{
-    let mut at = start;
-    while at < text.len() && is_white(text[at]) {
-        at += 1;
-    }
-    at
+    matches!(c, b' ' | b'\n' | b'\r' | b'\t')
 }
 
 // The digit c after digits that are worth `value`, if it is a digit and the number is not too large.
 fn with_digit(value: u32, c: u8) -> Option<u32>
-    ensures { elim result [
-      | Some v ↦ Digit c × (v ≡ 10 * value + (c - 48)) × (v < 4294967296)
-      | None ↦ (Digit c → 10 * value + (c - 48) < 4294967296 → ⊥)
-    ] }
+    ensures { MatchOption result (Digit c → 10 * value + (c - 48) < 4294967296 → ⊥) (λ v. Digit c × (v ≡ 10 * value + (c - 48)) × (v < 4294967296)) }
 {
-    if c < b'0' || c > b'9' {
+    if !c.is_ascii_digit() {
         return None;
     }
-    let longer = 10 * value as u64 + (c - b'0') as u64;
-    if longer > 4294967295 {
-        return None;
-    }
-    Some(longer as u32)
+    u32::try_from(10 * value as u64 + (c - b'0') as u64).ok()
 }
 
-// The number that begins at `start`.
-fn number_at(text: &[u8], start: usize) -> Option<Number>
-    requires { (start < length text.now) × (white (slice_index text.now start) ≡ false) }
-    ensures { elim result [ Some n ↦ NumberAt text.now start n.value n.end | None ↦ NoNumber text.now start ] }
+// What a word is worth, if it is a number below 2^32.
+fn number_of(word: &[u8]) -> Option<u32>
+    ensures { MatchOption result (WordFits word.now → ⊥) (λ v. WordFits word.now × (v ≡ value word.now)) }
 {
     let mut value = 0;
-    let mut end = start;
-    while end < text.len() && !is_white(text[end]) {
-        let Some(longer) = with_digit(value, text[end]) else {
-            return None;
-        };
-        value = longer;
-        end += 1;
+    for c in word {
+        value = with_digit(value, *c)?;
     }
-    Some(Number { value, end })
+    Some(value)
 }
 
 // Writes the numbers of a text, one after another, and says how many there are. They are digits, the first of which may be 0, and white space parts them.
 // Otherwise it says which of them, counted from 0, is no number below 2^32 or has no room; those before it are written.
 pub fn numbers(text: &[u8], out: &mut [u32]) -> Result<usize, usize>
-    ensures { elim result [
-      | Ok n ↦ AllRead text.now out.old out.new n
-      | Err n ↦ Stops text.now out.old out.new n
-    ] }
+    ensures { MatchResult result (AllRead text.now out.old out.new) (Stops text.now out.old out.new) }
 {
     let mut count = 0;
-    let mut at = past_white(text, 0);
-    while at < text.len() {
+    for word in text.split(|c| is_white(*c)).filter(|word| word.len() > 0) {
         if count == out.len() {
             return Err(count);
         }
-        let Some(number) = number_at(text, at) else {
-            return Err(count);
-        };
-        out[count] = number.value;
+        out[count] = number_of(word).ok_or(count)?;
         count += 1;
-        at = past_white(text, number.end);
     }
     Ok(count)
 }
@@ -188,25 +147,19 @@ pub fn cell(numbers: &[u32], counts: Counts, k: usize) -> Cell
 }
 
 // White space parts the words of a text.
-pub fn words_are() -> u8
+pub fn words_are()
     ensures { WordsAre }
-{
-    0
-}
+{}
 
 // What is read from the file of a paper that fits is that paper.
-pub fn reads_back() -> u8
+pub fn reads_back()
     ensures { ReadsBack }
-{
-    0
-}
+{}
 
 // Numbers are a file in one way, and cease to be one at one place, but not both.
-pub fn one_way() -> u8
+pub fn one_way()
     ensures { OneWay }
-{
-    0
-}
+{}
 
 #[cfg(test)]
 mod tests {
