@@ -1,9 +1,9 @@
 -- The words of a text, and the numbers that they are.
-use Rattle.std.proofs.Common.{Bor, Option, Some, None, Ok, Err, subst, ◌≡◌, ℕ, ◌+◌, ◌-◌, ◌*◌, ◌<◌, ◌≤◌, Bool, true, false, ◌⊎◌, List, [], ◌∷◌, ◌++◌, map, length, get_or, take, drop, set, sym, refl, ap, ◌∙◌, inl, inr, append_assoc, append-nil, arith}
+use Rattle.std.proofs.Common.{Bor, Option, Some, None, Ok, Err, ◌≡◌, ℕ, ◌+◌, ◌-◌, ◌*◌, ◌<◌, ◌≤◌, Bool, true, false, ◌⊎◌, List, [], ◌∷◌, ◌++◌, map, length, get_or, take, drop, set, sym, refl, ap, ◌∙◌, inl, inr, append_assoc, append-nil, arith}
 use Rattle.std.specs.Prelude.{cond, filter, ltb, MatchOption}
 use Rattle.std.specs.Option.{ok_or}
 use Rattle.std.specs.List.{AllByRecursion, slice_split, onto_first}
-use Rattle.std.proofs.lemmas.List.{get_or_default, take-append-drop, length-drop, drop_more, take_more, take_all, length-append, length_push, length-map, take_at, set_at, map_push, get_or_at}
+use Rattle.std.proofs.lemmas.List.{get_or_default, take-append-drop, length-drop, drop_more, take_more, take_all, length-append, length_push, length-map, set_at, map_push}
 use Rattle.std.proofs.lemmas.List.Splits.{slice_split-cons_yes, slice_split-cons_no, length-slice_split}
 use Rattle.std.proofs.ByRecursion.{All-push, All-get_or}
 use Rattle.std.specs.Iterator.{Yields}
@@ -94,6 +94,7 @@ words_parts w (c ∷ cs) = go (white c) refl (words_parts [] cs) (words_parts (w
   where
     ps : List (List ℕ)
     ps = slice_split white cs
+
     go : (t : Bool) → white c ≡ t → words cs ≡ filter filled (parts_after [] ps) → words_after (w ++ (c ∷ [])) cs ≡ filter filled (parts_after (w ++ (c ∷ [])) ps)
         → words_after w (c ∷ cs) ≡ filter filled (parts_after w (slice_split white (c ∷ cs)))
     go true e none more =

@@ -22,7 +22,7 @@ pub struct Counts {
     pub cells: usize,
 }
 
-// Space, newline, carriage return, tab.
+// Space, newline, carriage return, tab: without the form feed of `is_ascii_whitespace`.
 fn is_white(c: u8) -> bool
     ensures { result ≡ white c }
 {
@@ -52,6 +52,7 @@ fn number_of(word: &[u8]) -> Option<u32>
 
 // Writes the numbers of a text, one after another, and says how many there are. They are digits, the first of which may be 0, and white space parts them.
 // Otherwise it says which of them, counted from 0, is no number below 2^32 or has no room; those before it are written.
+// Into lent words and not a vector, as it takes no memory and so fails at a number only.
 pub fn numbers(text: &[u8], out: &mut [u32]) -> Result<usize, usize>
     ensures { MatchResult result (AllRead text.now out.old out.new) (Stops text.now out.old out.new) }
 {
@@ -82,42 +83,39 @@ fn number_fits(numbers: &[u32], i: usize) -> bool
     let number = numbers[i];
     let last = 2 * numbers[0] as usize;
     if i == 0 {
-        number <= MAX_CHANGES
-    } else if i <= last {
-        number < if i % 2 == 1 { 256 } else { 3 }
-    } else if i - 1 - last >= 4 * MAX_CELLS {
-        false
-    } else {
-        match (i - 1 - last) % 4 {
-            0 => number == 10 || 32 <= number && number <= 126,
+        return number <= MAX_CHANGES;
+    }
+    if i <= last {
+        return number < if i % 2 == 1 { 256 } else { 3 };
+    }
+    let at = i - 1 - last;
+    // The numbers of a cell by their places in it: no enum, as it would say no more than the order of a cell's fields.
+    at < 4 * MAX_CELLS
+        && match at % 4 {
+            0 => matches!(number, 10 | 32..=126),
             1 => number < 256,
             _ => mark_fits(numbers, number),
         }
-    }
 }
 
 // Whether some numbers are the file of a paper that fits: how many changes and cells it has, or the place of the first number that does not fit.
 // Where the numbers stop too early, that is how many there are.
 pub fn read(numbers: &[u32]) -> Result<Counts, usize>
-    ensures { elim result [ Ok c ↦ IsFile numbers.now c.changes c.cells | Err i ↦ Ceases numbers.now i ] }
+    ensures { MatchResult result (λ c. IsFile numbers.now c.changes c.cells) (Ceases numbers.now) }
 {
-    let len = numbers.len();
-    for i in 0..len {
-        if !number_fits(numbers, i) {
-            return Err(i);
-        }
+    if let Some(i) = (0..numbers.len()).find(|i| !number_fits(numbers, *i)) {
+        return Err(i);
     }
-    if len == 0 {
-        return Err(len);
-    }
-    let changes = numbers[0] as usize;
-    let before = 1 + 2 * changes;
-    if len < before || (len - before) % 4 > 0 {
-        return Err(len);
+    let Some((changes, rest)) = numbers.split_first() else {
+        return Err(0);
+    };
+    let changes = *changes as usize;
+    if rest.len() < 2 * changes || (rest.len() - 2 * changes) % 4 > 0 {
+        return Err(numbers.len());
     }
     Ok(Counts {
         changes,
-        cells: (len - before) / 4,
+        cells: (rest.len() - 2 * changes) / 4,
     })
 }
 
@@ -126,10 +124,7 @@ pub fn change(numbers: &[u32], counts: Counts, k: usize) -> Change
     requires { (k < counts.changes) × (IsFile numbers.now counts.changes counts.cells) }
     ensures { (d : PaperChange) → slice_index_or (paper_of numbers.now counts.changes counts.cells).changes k d ≡ change_of result }
 {
-    Change {
-        author: numbers[1 + 2 * k],
-        became: numbers[2 + 2 * k],
-    }
+    changes::read(&numbers[1..], k)
 }
 
 // Cell number k of a file.
@@ -137,13 +132,7 @@ pub fn cell(numbers: &[u32], counts: Counts, k: usize) -> Cell
     requires { (k < counts.cells) × (IsFile numbers.now counts.changes counts.cells) }
     ensures { (d : PaperCell) → slice_index_or (paper_of numbers.now counts.changes counts.cells).cells k d ≡ cell_of result }
 {
-    let at = 1 + 2 * counts.changes + 4 * k;
-    Cell {
-        letter: numbers[at],
-        style: numbers[at + 1],
-        put_in: numbers[at + 2],
-        struck: numbers[at + 3],
-    }
+    slots::read(&numbers[1 + 2 * counts.changes..], k)
 }
 
 // White space parts the words of a text.
@@ -167,6 +156,7 @@ mod tests {
 
     // The place at which the numbers of a text cease to be a file.
     fn refused(text: &[u8]) -> Option<usize> {
+        // Lent words, as `numbers` fills them.
         let mut room = [0; 16];
         let n = match numbers(text, &mut room) {
             Ok(n) => n,

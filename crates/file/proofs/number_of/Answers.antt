@@ -12,8 +12,6 @@ loop-c-preserved c = begun_more _ _ _ c.loop-c.invariant c.loop-c-test.true _ c.
 pub returns : goal.returns
 returns c = begun_all _ _ _ c.loop-c.invariant c.loop-c-test.false
 
-
-
 pub returns-in_err-value : goal.returns-in_err-value
 returns-in_err-value c =
     let bad = begun_bad _ _ _ c.loop-c.invariant c.loop-c-test.true c.in_err-value.ensures in

@@ -30,10 +30,10 @@ returns-in_err-out c =
 
 pub loop-word-preserved : goal.loop-word-preserved
 loop-word-preserved c = (
-      search of_calls,
-      search of_calls,
-      reads_more _ _ _ _ c.loop-word.invariant.2 c.in-Some.word _ (omega arith) (answered_some c.in-Some.word.now _ _ _ (sym c.ok_or.ensures.value ∙ c.in_ok-out.was) c.number_of.ensures),
-    )
+  search of_calls,
+  search of_calls,
+  reads_more _ _ _ _ c.loop-word.invariant.2 c.in-Some.word _ (omega arith) (answered_some c.in-Some.word.now _ _ _ (sym c.ok_or.ensures.value ∙ c.in_ok-out.was) c.number_of.ensures),
+)
 
 pub returns : goal.returns
 returns c =
