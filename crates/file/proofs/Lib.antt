@@ -1,4 +1,4 @@
 pub mod Rows
 mod Passes
 mod Beginnings
-mod Scan
+mod WordSteps

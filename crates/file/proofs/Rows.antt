@@ -1,6 +1,8 @@
 -- The changes and cells in the numbers of a file.
-use Rattle.std.proofs.Common.{◌≡◌, ℕ, zero, suc, ◌+◌, ◌*◌, ◌<◌, ◌≤◌, List, [], ◌∷◌, ◌++◌, length, get_or, drop, sym, refl, ap, ◌∙◌, append-nil, add-zero, zero-add, arith}
-use Rattle.std.proofs.lemmas.List.{drop_more, drop_all, drop_at, drop-drop, get_or-drop, length-append}
+use Rattle.std.proofs.Common.{◌≡◌, ℕ, zero, suc, ◌+◌, ◌*◌, ◌<◌, ◌≤◌, List, [], ◌∷◌, ◌++◌, length, get_or, take, drop, ◌-◌, sym, refl, ap, ◌∙◌, append-nil, add-zero, zero-add, arith}
+use Rattle.std.proofs.lemmas.List.{take_rest, drop_more, drop_all, drop_at, drop-drop, get_or-drop, length-append}
+use Rattle.changes.specs.Row as row
+use Rattle.slots.specs.Cells as slot
 use Rattle.model.specs.Paper.{Cell, Change, Paper, written, changes_written, cells_written}
 use Rattle.file.specs.Paper.{change_at, changes_from, cell_at, cells_from, paper_of}
 
@@ -115,3 +117,28 @@ paper_back p =
     let l : length (length p.changes ∷ us) ≡ 1 + 2 * length p.changes = omega (arith, length_changes_written p.changes) in
     let d = cells_back (written p) (1 + 2 * length p.changes) p.cells (drop_at (length p.changes ∷ us) vs (1 + 2 * length p.changes) l) in
     λ i. record { cells = d i; changes = c i }
+
+-- change number k and cell number k, in the part of a file that has the changes or the cells
+pub change_of_part : (ns : List ℕ) (n k : ℕ) (d : Change) → k < n → row.change_at (take (length ns - 1) (drop 1 ns)) k ≡ get_or (changes_from ns 0 n) k d
+change_of_part ns n k d h =
+    let r = take_rest ns 1 in
+    let a = get_or-drop 1 ns (2 * k) 0 in
+    let b = get_or-drop 1 ns (2 * k + 1) 0 in
+    let e : 1 + (2 * k + 1) ≡ 2 + 2 * k = omega arith in
+    let w = change_in ns 0 n k d h in
+    let z : 0 + k ≡ k = omega arith in
+    cc
+
+pub cell_of_part : (ns : List ℕ) (i m k : ℕ) (d : Cell) → k < m → slot.cell_at (take (length ns - i) (drop i ns)) k ≡ get_or (cells_from ns i m) k d
+unfolding slot.cell_at
+cell_of_part ns i m k d h =
+    let r = take_rest ns i in
+    let a = get_or-drop i ns (4 * k) 0 in
+    let b = get_or-drop i ns (4 * k + 1) 0 in
+    let e = get_or-drop i ns (4 * k + 2) 0 in
+    let f = get_or-drop i ns (4 * k + 3) 0 in
+    let p : i + (4 * k + 1) ≡ i + 4 * k + 1 = omega arith in
+    let q : i + (4 * k + 2) ≡ i + 4 * k + 2 = omega arith in
+    let s : i + (4 * k + 3) ≡ i + 4 * k + 3 = omega arith in
+    let w = cell_in ns i m k d h in
+    cc

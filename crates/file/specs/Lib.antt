@@ -2,4 +2,3 @@ pub mod Paper
 pub mod Places
 pub mod Laws
 pub mod Words
-pub mod Scan

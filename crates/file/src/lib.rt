@@ -1,12 +1,11 @@
 // A paper's file: the numbers in a text, and the paper that some numbers are.
 #![tactic(auto)]
 
-ghost use Rattle.std.specs.Prelude.{◌≡◌, ◌+◌, ◌-◌, ◌*◌, ◌<◌, ◌≤◌, false, length, Some, None, Ok, Err, MatchBool, slice_index, slice_index_or};
+ghost use Rattle.std.specs.Prelude.{◌≡◌, ◌+◌, ◌-◌, ◌*◌, ◌<◌, ◌≤◌, length, Ok, Err, MatchBool, MatchOption, MatchResult, slice_index, slice_index_or};
 ghost use Rattle.file.specs.Laws.{OneWay, ReadsBack, WordsAre};
 ghost use Rattle.file.specs.Paper.{Ceases, IsFile, paper_of};
 ghost use Rattle.file.specs.Places.{MarkFits, NumberFits, last};
-ghost use Rattle.file.specs.Scan.{NoNumber, NumberAt, PastWhite};
-ghost use Rattle.file.specs.Words.{AllRead, Digit, Stops, white};
+ghost use Rattle.file.specs.Words.{AllRead, Digit, Stops, WordFits, value, white};
 ghost use Rattle.model.specs.Paper.{Cell as PaperCell, Change as PaperChange};
 ghost use Rattle.model.specs.Values.{cell_of, change_of};
 
@@ -17,92 +16,53 @@ const MAX_CHANGES: u32 = 128;
 const MAX_CELLS: usize = 2048;
 
 // How many changes and cells a paper has.
-#[derive(Clone, Copy)]
+#[derive(Clone, Copy, Debug, PartialEq, Eq, Hash)]
 pub struct Counts {
     pub changes: usize,
     pub cells: usize,
 }
 
-// A number in a text, and the place after its last digit.
-#[derive(Clone, Copy)]
-struct Number {
-    value: u32,
-    end: usize,
-}
-
-// Space, newline, carriage return, tab.
+// Space, newline, carriage return, tab: without the form feed of `is_ascii_whitespace`.
 fn is_white(c: u8) -> bool
     ensures { result ≡ white c }
 {
-    c == b' ' || c == b'\n' || c == b'\r' || c == b'\t'
-}
-
-// The first place from `start` on where there is no white space.
-fn past_white(text: &[u8], start: usize) -> usize
-    requires { start ≤ length text.now }
-    ensures { PastWhite text.now start result }
-{
-    let mut at = start;
-    while at < text.len() && is_white(text[at]) {
-        at += 1;
-    }
-    at
+    matches!(c, b' ' | b'\n' | b'\r' | b'\t')
 }
 
 // The digit c after digits that are worth `value`, if it is a digit and the number is not too large.
 fn with_digit(value: u32, c: u8) -> Option<u32>
-    ensures { elim result [
-      | Some v ↦ Digit c × (v ≡ 10 * value + (c - 48)) × (v < 4294967296)
-      | None ↦ (Digit c → 10 * value + (c - 48) < 4294967296 → ⊥)
-    ] }
+    ensures { MatchOption result (Digit c → 10 * value + (c - 48) < 4294967296 → ⊥) (λ v. Digit c × (v ≡ 10 * value + (c - 48)) × (v < 4294967296)) }
 {
-    if c < b'0' || c > b'9' {
+    if !c.is_ascii_digit() {
         return None;
     }
-    let longer = 10 * value as u64 + (c - b'0') as u64;
-    if longer > 4294967295 {
-        return None;
-    }
-    Some(longer as u32)
+    u32::try_from(10 * value as u64 + (c - b'0') as u64).ok()
 }
 
-// The number that begins at `start`.
-fn number_at(text: &[u8], start: usize) -> Option<Number>
-    requires { (start < length text.now) × (white (slice_index text.now start) ≡ false) }
-    ensures { elim result [ Some n ↦ NumberAt text.now start n.value n.end | None ↦ NoNumber text.now start ] }
+// What a word is worth, if it is a number below 2^32.
+fn number_of(word: &[u8]) -> Option<u32>
+    ensures { MatchOption result (WordFits word.now → ⊥) (λ v. WordFits word.now × (v ≡ value word.now)) }
 {
     let mut value = 0;
-    let mut end = start;
-    while end < text.len() && !is_white(text[end]) {
-        let Some(longer) = with_digit(value, text[end]) else {
-            return None;
-        };
-        value = longer;
-        end += 1;
+    for c in word {
+        value = with_digit(value, *c)?;
     }
-    Some(Number { value, end })
+    Some(value)
 }
 
 // Writes the numbers of a text, one after another, and says how many there are. They are digits, the first of which may be 0, and white space parts them.
 // Otherwise it says which of them, counted from 0, is no number below 2^32 or has no room; those before it are written.
+// Into lent words and not a vector, as it takes no memory and so fails at a number only.
 pub fn numbers(text: &[u8], out: &mut [u32]) -> Result<usize, usize>
-    ensures { elim result [
-      | Ok n ↦ AllRead text.now out.old out.new n
-      | Err n ↦ Stops text.now out.old out.new n
-    ] }
+    ensures { MatchResult result (AllRead text.now out.old out.new) (Stops text.now out.old out.new) }
 {
     let mut count = 0;
-    let mut at = past_white(text, 0);
-    while at < text.len() {
+    for word in text.split(|c| is_white(*c)).filter(|word| word.len() > 0) {
         if count == out.len() {
             return Err(count);
         }
-        let Some(number) = number_at(text, at) else {
-            return Err(count);
-        };
-        out[count] = number.value;
+        out[count] = number_of(word).ok_or(count)?;
         count += 1;
-        at = past_white(text, number.end);
     }
     Ok(count)
 }
@@ -123,42 +83,39 @@ fn number_fits(numbers: &[u32], i: usize) -> bool
     let number = numbers[i];
     let last = 2 * numbers[0] as usize;
     if i == 0 {
-        number <= MAX_CHANGES
-    } else if i <= last {
-        number < if i % 2 == 1 { 256 } else { 3 }
-    } else if i - 1 - last >= 4 * MAX_CELLS {
-        false
-    } else {
-        match (i - 1 - last) % 4 {
-            0 => number == 10 || 32 <= number && number <= 126,
+        return number <= MAX_CHANGES;
+    }
+    if i <= last {
+        return number < if i % 2 == 1 { 256 } else { 3 };
+    }
+    let at = i - 1 - last;
+    // The numbers of a cell by their places in it: no enum, as it would say no more than the order of a cell's fields.
+    at < 4 * MAX_CELLS
+        && match at % 4 {
+            0 => matches!(number, 10 | 32..=126),
             1 => number < 256,
             _ => mark_fits(numbers, number),
         }
-    }
 }
 
 // Whether some numbers are the file of a paper that fits: how many changes and cells it has, or the place of the first number that does not fit.
 // Where the numbers stop too early, that is how many there are.
 pub fn read(numbers: &[u32]) -> Result<Counts, usize>
-    ensures { elim result [ Ok c ↦ IsFile numbers.now c.changes c.cells | Err i ↦ Ceases numbers.now i ] }
+    ensures { MatchResult result (λ c. IsFile numbers.now c.changes c.cells) (Ceases numbers.now) }
 {
-    let len = numbers.len();
-    for i in 0..len {
-        if !number_fits(numbers, i) {
-            return Err(i);
-        }
+    if let Some(i) = (0..numbers.len()).find(|i| !number_fits(numbers, *i)) {
+        return Err(i);
     }
-    if len == 0 {
-        return Err(len);
-    }
-    let changes = numbers[0] as usize;
-    let before = 1 + 2 * changes;
-    if len < before || (len - before) % 4 > 0 {
-        return Err(len);
+    let Some((changes, rest)) = numbers.split_first() else {
+        return Err(0);
+    };
+    let changes = *changes as usize;
+    if rest.len() < 2 * changes || (rest.len() - 2 * changes) % 4 > 0 {
+        return Err(numbers.len());
     }
     Ok(Counts {
         changes,
-        cells: (len - before) / 4,
+        cells: (rest.len() - 2 * changes) / 4,
     })
 }
 
@@ -167,10 +124,7 @@ pub fn change(numbers: &[u32], counts: Counts, k: usize) -> Change
     requires { (k < counts.changes) × (IsFile numbers.now counts.changes counts.cells) }
     ensures { (d : PaperChange) → slice_index_or (paper_of numbers.now counts.changes counts.cells).changes k d ≡ change_of result }
 {
-    Change {
-        author: numbers[1 + 2 * k],
-        became: numbers[2 + 2 * k],
-    }
+    changes::read(&numbers[1..], k)
 }
 
 // Cell number k of a file.
@@ -178,35 +132,23 @@ pub fn cell(numbers: &[u32], counts: Counts, k: usize) -> Cell
     requires { (k < counts.cells) × (IsFile numbers.now counts.changes counts.cells) }
     ensures { (d : PaperCell) → slice_index_or (paper_of numbers.now counts.changes counts.cells).cells k d ≡ cell_of result }
 {
-    let at = 1 + 2 * counts.changes + 4 * k;
-    Cell {
-        letter: numbers[at],
-        style: numbers[at + 1],
-        put_in: numbers[at + 2],
-        struck: numbers[at + 3],
-    }
+    slots::read(&numbers[1 + 2 * counts.changes..], k)
 }
 
 // White space parts the words of a text.
-pub fn words_are() -> u8
+pub fn words_are()
     ensures { WordsAre }
-{
-    0
-}
+{}
 
 // What is read from the file of a paper that fits is that paper.
-pub fn reads_back() -> u8
+pub fn reads_back()
     ensures { ReadsBack }
-{
-    0
-}
+{}
 
 // Numbers are a file in one way, and cease to be one at one place, but not both.
-pub fn one_way() -> u8
+pub fn one_way()
     ensures { OneWay }
-{
-    0
-}
+{}
 
 #[cfg(test)]
 mod tests {
@@ -214,6 +156,7 @@ mod tests {
 
     // The place at which the numbers of a text cease to be a file.
     fn refused(text: &[u8]) -> Option<usize> {
+        // Lent words, as `numbers` fills them.
         let mut room = [0; 16];
         let n = match numbers(text, &mut room) {
             Ok(n) => n,

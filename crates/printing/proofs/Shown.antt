@@ -1,9 +1,19 @@
 -- Lists of cells: what is seen, where rows are cut, and what is printed of them.
-use Rattle.std.proofs.Common.{◌≡◌, ℕ, suc, ◌+◌, ◌-◌, ◌/◌, ◌%◌, ◌^◌, ◌<◌, ◌≤◌, min, true, false, eqb, leb, List, [], ◌∷◌, ◌++◌, length, get_or, take, drop, decimal, sym, refl, ap, ◌∙◌, inl, inr, arith}
+use Rattle.std.proofs.Common.{◌≡◌, ℕ, zero, suc, ◌+◌, ◌-◌, ◌<◌, ◌≤◌, min, Bool, true, false, cond, eqb, leb, Option, Some, None, Result, Ok, Err, Vec, vec_items, Bor, List, [], ◌∷◌, ◌++◌, length, get_or, take, drop, reverse, sym, refl, ap, ◌∙◌, arith}
+use denote.Param.Members.{Mut}
 use lib.Dec.{eqb-suc-zero}
-use Rattle.std.proofs.lemmas.Fmt.{decimal_digit, decimal_step}
-use Rattle.std.proofs.lemmas.List.{append_assoc, append-nil, drop_more, drop_all, take-map, drop-map, length-map, map_push, map_more, nil_from_length}
-use Rattle.std.proofs.lemmas.Bool.{eq-eqb, ne_eqb, le-leb, lt-leb, cases_lt}
+use Rattle.std.specs.Prelude.{filter, IfOk, IsSomeAnd, MatchOption}
+use Rattle.std.specs.Fn.{Called}
+use Rattle.std.specs.Iterator.{FindsPositionBack}
+use Rattle.std.specs.List.{position_from}
+use Rattle.std.specs.declared.slice.Iter.{Iter}
+use Rattle.std.specs.Slice.Iter.{iter_rest, iter_steps_back}
+use Rattle.std.proofs.lemmas.Iterator.{YieldsList}
+use Rattle.std.proofs.lemmas.Iterator.Adapters.{position_from-zero}
+use Rattle.std.proofs.lemmas.Iterator.Consumers.{YieldsList-from_shown}
+use Rattle.std.proofs.lemmas.Iterator.Search.{position_from_yields_List}
+use Rattle.std.proofs.lemmas.List.{append_assoc, append-nil, drop_more, drop_all, take-map, drop-map, length-map, length-reverse, reverse-append, nil_from_length}
+use Rattle.std.proofs.lemmas.Bool.{le-leb, lt-leb}
 use Rattle.model.specs.Paper.{pick, Cell, seen, view}
 use Rattle.model.specs.Rows.{Cut, cut, cut_after, first_end, last_space, rows}
 use Rattle.model.specs.Walk.{step}
@@ -12,108 +22,103 @@ use Rattle.text.specs.Shown.{cell_line, row_line}
 use Rattle.printing.specs.declared.reading.Cell as code
 use Rattle.printing.specs.declared.rows.Cut as code_cut
 use Rattle.printing.specs.Printed.{rows_printed}
-use Rattle.printing.specs.Values.{cell_of, cells_of, cut_of, FirstRow}
+use Rattle.printing.specs.Values.{after_place, cell_of, cells_of, cut_of, FirstRow}
 
--- one more cell at the end
-view_push : (k : ℕ) (xs : List Cell) (x : Cell) → view k (xs ++ (x ∷ [])) ≡ view k xs ++ pick (seen k x) (x ∷ []) []
+-- the cells that pass the test of a way to look
+pub view_filter : (k : ℕ) (xs : List code.Cell) → cells_of (filter (λ x. seen k (cell_of x)) xs) ≡ view k (cells_of xs)
 unfolding view
-view_push k [] x = elim (seen k x) as (λ b. pick b (x ∷ []) [] ≡ [] ++ pick b (x ∷ []) []) [ true ↦ refl | false ↦ refl ]
-view_push k (y ∷ ys) x =
-    let h = view_push k ys x in
-    elim (seen k y) as (λ b. pick b (y ∷ view k (ys ++ (x ∷ []))) (view k (ys ++ (x ∷ []))) ≡ pick b (y ∷ view k ys) (view k ys) ++ pick (seen k x) (x ∷ []) []) [
-      | true ↦ ap (λ zs. y ∷ zs) h
-      | false ↦ h
+view_filter k [] = refl
+view_filter k (x ∷ xs) =
+    elim (seen k (cell_of x)) as (λ b. cells_of (cond b (x ∷ filter (λ y. seen k (cell_of y)) xs) (filter (λ y. seen k (cell_of y)) xs)) ≡ pick b (cell_of x ∷ view k (cells_of xs)) (view k (cells_of xs))) [
+      | true ↦ ap (λ ys. cell_of x ∷ ys) (view_filter k xs)
+      | false ↦ view_filter k xs
     ]
 
-view_seen : (k : ℕ) (xs vs : List Cell) (x : Cell) → vs ≡ view k xs → seen k x ≡ true → vs ++ (x ∷ []) ≡ view k (xs ++ (x ∷ []))
-view_seen k xs vs x e s = ap (λ zs. zs ++ (x ∷ [])) e ∙ (ap (λ b. view k xs ++ pick b (x ∷ []) []) (sym s) ∙ sym (view_push k xs x))
+pub viewed : {Z E : Type 0} (k : ℕ) (xs : List code.Cell) (r : Result (Vec code.Cell Z) E) → IfOk r (λ v. vec_items v ≡ filter (λ x. seen k (cell_of x)) xs) → IfOk r (λ v. cells_of (vec_items v) ≡ view k (cells_of xs))
+viewed k xs (Ok v) e = ap cells_of e ∙ view_filter k xs
+viewed k xs (Err e) t = t
 
-view_hidden : (k : ℕ) (xs vs : List Cell) (x : Cell) → vs ≡ view k xs → seen k x ≡ false → vs ≡ view k (xs ++ (x ∷ []))
-view_hidden k xs vs x e s = e ∙ (sym (append-nil (view k xs)) ∙ (ap (λ b. view k xs ++ pick b (x ∷ []) []) (sym s) ∙ sym (view_push k xs x)))
-
-module _ (k i : ℕ) (cells v : List code.Cell) (d : code.Cell) (h : i < length cells) (inv : cells_of v ≡ view k (cells_of (take i cells))) where
-  pub view_step : (after : List code.Cell) → seen k (cell_of (get_or cells i d)) ≡ true → after ≡ v ++ (get_or cells i d ∷ []) → cells_of after ≡ view k (cells_of (take (i + 1) cells))
-  view_step after s e =
-      ap cells_of e
-      ∙ (map_push cell_of v (get_or cells i d)
-      ∙ (view_seen k (cells_of (take i cells)) (cells_of v) (cell_of (get_or cells i d)) inv s ∙ ap (view k) (sym (map_more cell_of cells i d h))))
-
-  pub view_pass : seen k (cell_of (get_or cells i d)) ≡ false → cells_of v ≡ view k (cells_of (take (i + 1) cells))
-  view_pass s = view_hidden k (cells_of (take i cells)) (cells_of v) (cell_of (get_or cells i d)) inv s ∙ ap (view k) (sym (map_more cell_of cells i d h))
-
-pub view_none : (k : ℕ) → view k [] ≡ []
-unfolding view
-view_none k = refl
-
--- The first end of a paragraph and the last space, cell by cell; n is how many cells count.
-module _ (xs : List Cell) (n i : ℕ) (d : Cell) (h : i < length xs) (k : i < n) where
-  one : n - i ≡ suc (n - (i + 1))
-  one = omega arith
-
-  end_at : first_end (drop i xs) (n - i) i ≡ pick (eqb (get_or xs i d).letter 10) (suc i) (first_end (drop (i + 1) xs) (n - (i + 1)) (suc i))
-  unfolding first_end
-  end_at = ap (λ ys. first_end ys (n - i) i) (drop_more xs i d h) ∙ ap (λ m. first_end (get_or xs i d ∷ drop (i + 1) xs) m i) one
-
-  pub end_found : (get_or xs i d).letter ≡ 10 → first_end (drop i xs) (n - i) i ≡ suc i
-  end_found e = end_at ∙ ap (λ b. pick b (suc i) (first_end (drop (i + 1) xs) (n - (i + 1)) (suc i))) (eq-eqb (get_or xs i d).letter 10 e)
-
-  pub end_more : ((get_or xs i d).letter ≡ 10 → ⊥) → first_end (drop i xs) (n - i) i ≡ first_end (drop (i + 1) xs) (n - (i + 1)) (i + 1)
-  end_more e =
-      let s : suc i ≡ i + 1 = omega arith in
-      end_at ∙ (ap (λ b. pick b (suc i) (first_end (drop (i + 1) xs) (n - (i + 1)) (suc i))) (ne_eqb (get_or xs i d).letter 10 e) ∙ ap (first_end (drop (i + 1) xs) (n - (i + 1))) s)
-
-  space_at : (found : ℕ) → last_space (drop i xs) (n - i) i found ≡ last_space (drop (i + 1) xs) (n - (i + 1)) (i + 1) (pick (eqb (get_or xs i d).letter 32) (i + 1) found)
-  unfolding last_space
-  space_at found =
-      let s : suc i ≡ i + 1 = omega arith in
-      ap (λ ys. last_space ys (n - i) i found) (drop_more xs i d h)
-      ∙ (ap (λ m. last_space (get_or xs i d ∷ drop (i + 1) xs) m i found) one
-      ∙ ap (λ (j : ℕ). last_space (drop (i + 1) xs) (n - (i + 1)) j (pick (eqb (get_or xs i d).letter 32) j found)) s)
-
-  pub space_found : (found : ℕ) → (get_or xs i d).letter ≡ 32 → last_space (drop i xs) (n - i) i found ≡ last_space (drop (i + 1) xs) (n - (i + 1)) (i + 1) (suc i)
-  space_found found e =
-      let s : i + 1 ≡ suc i = omega arith in
-      space_at found ∙ (ap (λ b. last_space (drop (i + 1) xs) (n - (i + 1)) (i + 1) (pick b (i + 1) found)) (eq-eqb (get_or xs i d).letter 32 e) ∙ ap (last_space (drop (i + 1) xs) (n - (i + 1)) (i + 1)) s)
-
-  pub space_more : (found : ℕ) → ((get_or xs i d).letter ≡ 32 → ⊥) → last_space (drop i xs) (n - i) i found ≡ last_space (drop (i + 1) xs) (n - (i + 1)) (i + 1) found
-  space_more found e = space_at found ∙ ap (λ b. last_space (drop (i + 1) xs) (n - (i + 1)) (i + 1) (pick b (i + 1) found)) (ne_eqb (get_or xs i d).letter 32 e)
-
-end_none : (xs : List Cell) (i : ℕ) → first_end xs 0 i ≡ 0
+-- the first end of a paragraph, as `position` finds it
+pub end_place : (xs : List code.Cell) (n i : ℕ) → after_place (position_from (λ x. eqb x.letter 10) i (take n xs)) ≡ first_end (cells_of xs) n i
 unfolding first_end
-end_none [] i = refl
-end_none (x ∷ xs) i = refl
+end_place [] zero i = refl
+end_place [] (suc n) i = refl
+end_place (x ∷ xs) zero i = refl
+end_place (x ∷ xs) (suc n) i =
+    let s : i + 1 ≡ suc i = omega arith in
+    let ih = rw s at (end_place xs n (i + 1)) in
+    rw s (elim (eqb x.letter 10) as (λ b. after_place (cond b (Some i) (position_from (λ y. eqb y.letter 10) (suc i) (take n xs))) ≡ pick b (suc i) (first_end (cells_of xs) n (suc i))) [ true ↦ refl | false ↦ ih ])
 
-end_nil : (n i : ℕ) → first_end [] n i ≡ 0
-unfolding first_end
-end_nil n i = refl
+-- one more than a place that was counted from the back, of n
+abbrev pub before : ℕ → ℕ → ℕ → Option ℕ → ℕ
+before i found n None = found
+before i found n (Some k) = i + n - k
 
-space_none : (xs : List Cell) (i found : ℕ) → last_space xs 0 i found ≡ found
+abbrev or_else : Option ℕ → Option ℕ → Option ℕ
+or_else None o = o
+or_else (Some k) o = Some k
+
+position_push : {A : Type 0} (t : A → Bool) (i : ℕ) (ys : List A) (x : A) → position_from t i (ys ++ (x ∷ [])) ≡ or_else (position_from t i ys) (cond (t x) (Some (i + length ys)) None)
+position_push t i [] x = let e : i + 0 ≡ i = omega arith in rw e refl
+position_push t i (y ∷ ys) x =
+    let e : i + 1 + length ys ≡ i + suc (length ys) = omega arith in
+    let ih = rw e at (position_push t (i + 1) ys x) in
+    elim (t y) as (λ b. cond b (Some i) (position_from t (i + 1) (ys ++ (x ∷ []))) ≡ or_else (cond b (Some i) (position_from t (i + 1) ys)) (cond (t x) (Some (i + suc (length ys))) None)) [ true ↦ refl | false ↦ ih ]
+
+-- the last space of some cells, counted from the back
+last_back : (zs : List code.Cell) (i found : ℕ) → last_space (cells_of zs) (length zs) i found ≡ before i found (length zs) (position_from (λ x. eqb x.letter 32) 0 (reverse zs))
 unfolding last_space
-space_none [] i found = refl
-space_none (x ∷ xs) i found = refl
+last_back [] i found = refl
+last_back (x ∷ xs) i found =
+    let t : code.Cell → Bool = λ y. eqb y.letter 32 in
+    let r : reverse (x ∷ xs) ≡ reverse xs ++ (x ∷ []) = reverse-append (x ∷ []) xs in
+    let p = position_push t 0 (reverse xs) x in
+    last_back xs (suc i) (pick (t x) (suc i) found)
+    ∙ (go (position_from t 0 (reverse xs)) (t x) ∙ ap (before i found (suc (length xs))) (sym p ∙ ap (position_from t 0) (sym r)))
+  where
+    go : (o : Option ℕ) (b : Bool) → before (suc i) (pick b (suc i) found) (length xs) o ≡ before i found (suc (length xs)) (or_else o (cond b (Some (0 + length (reverse xs))) None))
+    go None true = omega (arith, length-reverse xs)
+    go None false = refl
+    go (Some k) b = omega arith
 
-space_nil : (n i found : ℕ) → last_space [] n i found ≡ found
+last_near : (xs : List code.Cell) (n i found m : ℕ) → m ≡ min (length xs) n → last_space (cells_of xs) n i found ≡ last_space (cells_of (take m xs)) (length (take m xs)) i found
 unfolding last_space
-space_nil n i found = refl
+last_near [] n i found zero e = refl
+last_near [] n i found (suc m) e = refl
+last_near (x ∷ xs) zero i found zero e = refl
+last_near (x ∷ xs) zero i found (suc m) e = absurd (omega arith)
+last_near (x ∷ xs) (suc n) i found zero e = absurd (omega arith)
+last_near (x ∷ xs) (suc n) i found (suc m) e = last_near xs n (suc i) (pick (eqb x.letter 32) (suc i) found) m (omega arith)
 
-module _ (xs : List Cell) (n i : ℕ) (h : min (length xs) n ≤ i) where
-  pub end_last : first_end (drop i xs) (n - i) i ≡ 0
-  end_last =
-      elim (cases_lt i (length xs)) [
-        | inl l ↦
-            let z : n - i ≡ 0 = omega arith in
-            ap (λ m. first_end (drop i xs) m i) z ∙ end_none (drop i xs) i
-        | inr l ↦ ap (λ ys. first_end ys (n - i) i) (drop_all i xs l) ∙ end_nil (n - i) i
-      ]
+-- what `rposition` finds
+from_back : {A : Type 0} (s : Iter A) → YieldsList iter_steps_back (λ y. y.now) s (reverse (iter_rest s))
+from_back s =
+    YieldsList-from_shown iter_steps_back (λ y. y.now) (λ t. reverse (iter_rest t)) (λ a b e. length-reverse (iter_rest a) ∙ e.0)
+    (λ a x b e. ap reverse e ∙ reverse-append (iter_rest b) (x.now ∷ [])) s
 
-  pub space_last : (found : ℕ) → last_space (drop i xs) (n - i) i found ≡ found
-  space_last found =
-      elim (cases_lt i (length xs)) [
-        | inl l ↦
-            let z : n - i ≡ 0 = omega arith in
-            ap (λ m. last_space (drop i xs) m i found) z ∙ space_none (drop i xs) i found
-        | inr l ↦ ap (λ ys. last_space ys (n - i) i found) (drop_all i xs l) ∙ space_nil (n - i) i found
-      ]
+module _ {A F : Type 0} (g : Mut F (Bor A × Unit {0}) Bool) (test : A → Bool) (s u : Iter A) (f : F) (n : ℕ) (r : Option ℕ) where
+  counted : (xs : List (Bor A)) (o : Option (Bor A)) (f' : F) → MatchOption o (r ≡ None) (λ x. IsSomeAnd r (λ i. i + 1 + length xs ≡ n) × ((h : F) × Called g f' (x, tt) true h))
+      → (k : Option ℕ) × MatchOption o (k ≡ None) (λ x. (k ≡ Some (length xs)) × ((h : F) × Called g f' (x, tt) true h)) × (after_place r ≡ before 0 0 n k)
+  counted xs None f' e = (None, refl, ap after_place e)
+  counted xs (Some x) f' e = (Some (length xs), (refl, e.1), suffices r e.0)
+    where
+      suffices : (q : Option ℕ) → IsSomeAnd q (λ i. i + 1 + length xs ≡ n) → after_place q ≡ 0 + n - length xs
+      suffices (Some i) h = omega arith
+      suffices None h = absurd h
+
+  pub place_back : FindsPositionBack iter_steps_back g s f n r u → ((x : Bor A) (b : Bool) (q : F) → Called g f (x, tt) b q → (q ≡ f) × (b ≡ test x.now))
+      → after_place r ≡ before 0 0 n (position_from test 0 (reverse (iter_rest s)))
+  place_back ran calls =
+      let k = counted ran.0 ran.1 ran.2 ran.5 in
+      let p = position_from_yields_List test u f k.0 (ran.0, ran.1, ran.2, ran.3, ran.4, k.1) (from_back s) calls in
+      k.2 ∙ ap (before 0 0 n) (p ∙ position_from-zero test (reverse (iter_rest s)))
+
+pub last_place : (cells near : List code.Cell) (n : ℕ) (r : Option ℕ) → near ≡ take (min (length cells) 65) cells → n ≡ length near → after_place r ≡ before 0 0 n (position_from (λ x. eqb x.letter 32) 0 (reverse near))
+    → after_place r ≡ last_space (cells_of cells) 65 0 0
+last_place cells near n r e l h =
+    let a = last_back near 0 0 in
+    let b = last_near cells 65 0 0 (min (length cells) 65) refl in
+    cc
 
 -- where the first row is cut
 module _ (w : ℕ) (xs : List Cell) where
@@ -204,12 +209,3 @@ pub rows_over : (out whole : List ℕ) (rest : List code.Cell) → length rest �
 rows_over out whole rest h q =
     let z : length rest ≡ 0 = omega arith in
     sym (rows_end out 64) ∙ (ap (λ (ys : List code.Cell). out ++ rows_printed (rows 64 (cells_of ys))) (sym (nil_from_length rest z)) ∙ q)
-
--- the digits of a number, as the code appends them
-pub digits_one : (line : List ℕ) (n : ℕ) → n < 10 → line ++ ((48 + n % 10) ∷ []) ≡ line ++ decimal n
-digits_one line n h =
-    let e : 48 + n % 10 ≡ 48 + n = omega arith in
-    ap (λ d. line ++ (d ∷ [])) e ∙ ap (λ ds. line ++ ds) (sym (decimal_digit n h))
-
-pub digits_more : (line : List ℕ) (n : ℕ) → 10 ≤ n → n < 2 ^ 64 → (line ++ decimal (n / 10)) ++ ((48 + n % 10) ∷ []) ≡ line ++ decimal n
-digits_more line n h small = append_assoc line (decimal (n / 10)) ((48 + n % 10) ∷ []) ∙ ap (λ ds. line ++ ds) (sym (decimal_step n h small))

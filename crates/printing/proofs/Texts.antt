@@ -1,6 +1,7 @@
 -- From the numbers that were read of a text to what the text is.
 use Rattle.std.proofs.Common.{◌≡◌, ℕ, ◌+◌, ◌<◌, ◌≤◌, List, [], map, length, take, drop, Ok, Err, Result, sym, ap, ◌∙◌, subst, inl, inr, arith}
 use Rattle.std.specs.List.{AllByRecursion}
+use Rattle.std.specs.Prelude.{MatchResult}
 use Rattle.std.proofs.lemmas.List.{take_at, take-take, take-map, get_or-take, length-append, length-map, length-take, length-take-le, length-drop}
 use Rattle.std.proofs.ByRecursion.{All-take, All-get_or}
 use Rattle.std.proofs.lemmas.Bool.{cases_lt}
@@ -43,7 +44,7 @@ module _ (text old ns : List ℕ) (n : ℕ) (most : length old ≡ 8449) where
           omega (arith, g.within, length-map (words text) value, a.count, a.room),
         )
 
-    pub all_read : (k : ℕ) → k ≡ n → (r : Result Counts ℕ) → elim r as (λ _. Type 0) [ Ok c ↦ IsFile (take k ns) c.changes c.cells | Err i ↦ Ceases (take k ns) i ] → NumbersAre text ns r
+    pub all_read : (k : ℕ) → k ≡ n → (r : Result Counts ℕ) → MatchResult r (λ c. IsFile (take k ns) c.changes c.cells) (Ceases (take k ns)) → NumbersAre text ns r
     all_read k e (Ok c) f = whole c.changes c.cells (subst (λ (j : ℕ). IsFile (take j ns) c.changes c.cells) e f)
     all_read k e (Err i) f = misfit i (subst (λ (j : ℕ). Ceases (take j ns) i) e f)
 

@@ -1,20 +1,23 @@
 -- The model's value for each struct of the code.
-use Rattle.std.specs.Prelude.{◌≡◌, ℕ, suc, ◌+◌, ◌<◌, ◌≤◌, List, map, length, Some, None, Ok, Err, vec_items, Option, Result}
+use Rattle.std.specs.Prelude.{◌≡◌, ℕ, suc, ◌+◌, ◌<◌, ◌≤◌, List, map, length, Some, None, Ok, Err, vec_items, Option, Result, ⊤}
 use Rattle.model.specs.Paper as paper
 use Rattle.model.specs.Values as model
+use Rattle.model.specs.declared.Cell as code
 use Rattle.printing.specs.declared.reading.Cell.{Cell}
 use Rattle.printing.specs.declared.reading.Paper.{Paper}
-use Rattle.printing.specs.declared.reading.Reading.{Reading}
-use Rattle.printing.specs.declared.reading.Reading.TheVariants.{Whole, Ceases}
+use Rattle.printing.specs.declared.reading.ReadError.{ReadError}
+use Rattle.printing.specs.declared.reading.ReadError.TheVariants.{Ceases, Memory}
 use Rattle.file.specs.declared.Counts.{Counts}
 use Rattle.model.specs.Rows as rows
 use Rattle.printing.specs.declared.rows.Cut.{Cut}
-use Rattle.printing.specs.declared.rows.Way.{Way}
-use Rattle.printing.specs.declared.rows.Way.TheVariants.{Everything, Accepted, Rejected}
 use Rattle.printing.specs.Reading.{Says, Holds, CeasesAt}
 
 abbrev pub cell_of : Cell → paper.Cell
 cell_of x = record { letter = x.letter; style = x.style; put_in = x.put_in; struck = x.struck }
+
+-- the same cell as in the model's code
+abbrev pub Widens : Cell → code.Cell → Type 0
+Widens x y = model.cell_of y ≡ cell_of x
 
 abbrev pub cells_of : List Cell → List paper.Cell
 cells_of xs = map cell_of xs
@@ -22,21 +25,16 @@ cells_of xs = map cell_of xs
 abbrev pub paper_of : Paper → paper.Paper
 paper_of p = record { cells = cells_of (vec_items p.cells); changes = map model.change_of (vec_items p.changes) }
 
--- what was read of a text
-abbrev pub Reads : List ℕ → Reading → Type 0
-Reads text (Whole p) = Says text (paper_of p)
-Reads text (Ceases i) = CeasesAt text i
+-- what was read of a text, where there was memory
+abbrev pub Reads : List ℕ → Result Paper ReadError → Type 0
+Reads text (Ok p) = Says text (paper_of p)
+Reads text (Err (Ceases i)) = CeasesAt text i
+Reads text (Err Memory) = ⊤
 
 -- the numbers of a text stand at the front of ns, or it ceases to be a file
 abbrev pub NumbersAre : List ℕ → List ℕ → Result Counts ℕ → Type 0
 NumbersAre text ns (Ok c) = Holds text ns c.changes c.cells
 NumbersAre text ns (Err i) = CeasesAt text i
-
--- the number of a way to look
-abbrev pub number_of : Way → ℕ
-number_of Everything = 0
-number_of Accepted = 1
-number_of Rejected = 2
 
 -- one more than a place, or 0
 abbrev pub after_place : Option ℕ → ℕ

@@ -6,5 +6,5 @@ mod reading;
 mod rows;
 
 pub use printer::{one_output, print, refuse};
-pub use reading::{Cell, Paper, Reading, read_paper};
-pub use rows::{Way, push_number, view};
+pub use reading::{Cell, Paper, ReadError, read_paper};
+pub use rows::view;

@@ -4,9 +4,11 @@ ghost use Rattle.printing.specs.Laws.{OneOutput};
 ghost use Rattle.printing.specs.Printed.{Printed, refusal, way_printed};
 ghost use Rattle.printing.specs.Values.{cells_of};
 
-use crate::reading::{Cell, Reading, read_paper};
-use crate::rows::{Way, push_number, push_way};
+use crate::reading::{Cell, ReadError, read_paper};
+use crate::rows::push_way;
+use model::Way;
 use std::alloc::{AllocError, Global};
+use text::push_number;
 
 // The sentence that says which number is missing or does not fit.
 pub fn refuse(out: &mut Vec<u8>, place: usize) -> Result<(), AllocError>
@@ -14,7 +16,7 @@ pub fn refuse(out: &mut Vec<u8>, place: usize) -> Result<(), AllocError>
     ensures { OnOk result (out.new.items ≡ out.old.items ++ refusal place) }
 {
     out.extend_from_slice(b"Not a paper: number ")?;
-    push_number(out, place + 1)?;
+    push_number(out, place as u64 + 1)?;
     out.extend_from_slice(b" is missing or does not fit.\n")?;
     Ok(())
 }
@@ -34,16 +36,15 @@ pub fn print(heap: Global, text: &[u8]) -> Result<Vec<u8>, AllocError>
     ensures { IfOk result (λ v. Printed text.now v.items) }
 {
     let mut out = Vec::new(heap);
-    match read_paper(heap, text)? {
-        Reading::Whole(paper) => push_ways(&mut out, heap, paper.cells.as_slice())?,
-        Reading::Ceases(place) => refuse(&mut out, place)?,
+    match read_paper(heap, text) {
+        Ok(paper) => push_ways(&mut out, heap, paper.cells.as_slice())?,
+        Err(ReadError::Ceases(place)) => refuse(&mut out, place)?,
+        Err(ReadError::Memory) => return Err(AllocError),
     }
     Ok(out)
 }
 
 // Of each text one thing only is printed.
-pub fn one_output() -> u8
+pub fn one_output()
     ensures { OneOutput }
-{
-    0
-}
+{}

@@ -1,18 +1,22 @@
 // A paper from the text of its file.
-ghost use Rattle.std.specs.Prelude.{◌≡◌, ◌≤◌, map, length, IfOk};
+ghost use Rattle.std.specs.Prelude.{◌≡◌, ◌≤◌, map, length, ◌<◌, IfOk, slice_index_or};
 ghost use Rattle.file.specs.Paper.{IsFile, paper_of};
+ghost use Rattle.model.specs.Paper.{Cell as PaperCell};
 ghost use Rattle.model.specs.Values.{cell_of as wide_of, change_of};
-ghost use Rattle.printing.specs.Values.{NumbersAre, Reads, cell_of, cells_of, paper_of as shown_paper};
+ghost use Rattle.printing.specs.declared.reading.ReadError.TheVariants.{Memory};
+ghost use Rattle.printing.specs.Values.{NumbersAre, Reads, Widens, cell_of, cells_of, paper_of as shown_paper};
 
 use file::Counts;
 use model::Change;
 use std::alloc::{AllocError, Global};
+use std::error::Error;
+use std::fmt;
 
 // The most numbers that the file of a paper has: how many changes, 128 changes and 2,048 cells.
 const NUMBERS: usize = 8449;
 
 // A cell as in `model`, whose letter is a byte.
-#[derive(Clone, Copy)]
+#[derive(Clone, Copy, Debug, PartialEq, Eq, Hash)]
 pub struct Cell {
     pub letter: u8,
     pub style: u32,
@@ -20,27 +24,64 @@ pub struct Cell {
     pub struck: u32,
 }
 
-#[derive(Drop)]
+impl From<Cell> for model::Cell {
+    ghost from_gives = { Widens };
+
+    fn from(x: Cell) -> model::Cell {
+        model::Cell {
+            letter: u32::from(x.letter),
+            style: x.style,
+            put_in: x.put_in,
+            struck: x.struck,
+        }
+    }
+}
+
+#[derive(Debug, Drop)]
 pub struct Paper {
     pub changes: Vec<Change>,
     pub cells: Vec<Cell>,
 }
 
-// The paper, or which number is the first that is missing or does not fit, counted from 0.
-#[derive(Drop)]
-pub enum Reading {
-    Whole(Paper),
+// Why no paper was read: the number at which a text ceases to be one's file, counted from 0, or no memory.
+#[derive(Clone, Copy, Debug, PartialEq, Eq, Hash)]
+pub enum ReadError {
     Ceases(usize),
+    Memory,
+}
+
+impl fmt::Display for ReadError {
+    fn fmt<W: fmt::Write>(&self, f: &mut fmt::Formatter<W>) -> fmt::Result {
+        match self {
+            ReadError::Ceases(place) => write!(
+                f,
+                "not a paper from number {} on, counted from 0",
+                place
+            ),
+            ReadError::Memory => write!(f, "out of memory"),
+        }
+    }
+}
+
+impl Error for ReadError {}
+
+impl From<AllocError> for ReadError {
+    ghost from_gives = { λ _ e. e ≡ Memory };
+
+    fn from(_error: AllocError) -> ReadError {
+        Self::Memory
+    }
 }
 
 // Writes the numbers of a text that is a paper's file, and says how many changes and cells there are. Otherwise it says where the text ceases to be one.
+// A function of its own and no conversion, as it writes to lent words.
 fn numbers_of(text: &[u8], room: &mut [u32]) -> Result<Counts, usize>
     requires { length room.old ≡ 8449 }
     ensures { NumbersAre text.now room.new result }
 {
     match file::numbers(text, room) {
-        Ok(n) => file::read(&room[0..n]),
-        Err(n) => match file::read(&room[0..n]) {
+        Ok(n) => file::read(&room[..n]),
+        Err(n) => match file::read(&room[..n]) {
             Ok(_) => Err(n),
             Err(i) => Err(i),
         },
@@ -52,14 +93,12 @@ fn read_changes(heap: Global, numbers: &[u32], counts: Counts) -> Result<Vec<Cha
     requires { IsFile numbers.now counts.changes counts.cells }
     ensures { IfOk result (λ v. map change_of v.items ≡ (paper_of numbers.now counts.changes counts.cells).changes) }
 {
-    let mut changes = Vec::new(heap);
-    for k in 0..counts.changes {
-        changes.push(file::change(numbers, counts, k))?;
-    }
-    Ok(changes)
+    (0..counts.changes)
+        .map(|k| file::change(numbers, counts, k))
+        .collect(heap)
 }
 
-// A cell whose letter is known to be a byte.
+// A cell whose letter is known to be a byte. No `TryFrom`, as it does not fail.
 fn narrow(cell: model::Cell) -> Cell
     requires { cell.letter ≤ 126 }
     ensures { cell_of result ≡ wide_of cell }
@@ -72,16 +111,22 @@ fn narrow(cell: model::Cell) -> Cell
     }
 }
 
+// Cell number k of a file.
+fn read_cell(numbers: &[u32], counts: Counts, k: usize) -> Cell
+    requires { (k < counts.cells) × (IsFile numbers.now counts.changes counts.cells) }
+    ensures { (d : PaperCell) → slice_index_or (paper_of numbers.now counts.changes counts.cells).cells k d ≡ cell_of result }
+{
+    narrow(file::cell(numbers, counts, k))
+}
+
 // The cells of a file.
 fn read_cells(heap: Global, numbers: &[u32], counts: Counts) -> Result<Vec<Cell>, AllocError>
     requires { IsFile numbers.now counts.changes counts.cells }
     ensures { IfOk result (λ v. cells_of v.items ≡ (paper_of numbers.now counts.changes counts.cells).cells) }
 {
-    let mut cells = Vec::new(heap);
-    for k in 0..counts.cells {
-        cells.push(narrow(file::cell(numbers, counts, k)))?;
-    }
-    Ok(cells)
+    (0..counts.cells)
+        .map(|k| read_cell(numbers, counts, k))
+        .collect(heap)
 }
 
 // The paper of a file.
@@ -95,15 +140,12 @@ fn read_file(heap: Global, numbers: &[u32], counts: Counts) -> Result<Paper, All
 }
 
 // The paper whose file a text is, or where the text ceases to be one.
-pub fn read_paper(heap: Global, text: &[u8]) -> Result<Reading, AllocError>
-    ensures { IfOk result (Reads text.now) }
+pub fn read_paper(heap: Global, text: &[u8]) -> Result<Paper, ReadError>
+    ensures { Reads text.now result }
 {
+    // Room for the longest file that fits: a vector could fail before it is known what the text is.
     let mut room = [0; NUMBERS];
-    match numbers_of(text, &mut room) {
-        Ok(counts) => {
-            let long = 1 + 2 * counts.changes + 4 * counts.cells;
-            Ok(Reading::Whole(read_file(heap, &room[0..long], counts)?))
-        }
-        Err(place) => Ok(Reading::Ceases(place)),
-    }
+    let counts = numbers_of(text, &mut room).map_err(ReadError::Ceases)?;
+    let long = 1 + 2 * counts.changes + 4 * counts.cells;
+    Ok(read_file(heap, &room[..long], counts)?)
 }

@@ -1,6 +1,5 @@
 -- An answer's bytes as a line: the parts at a place in the bytes.
-use Rattle.std.proofs.Common.{◌≡◌, ℕ, suc, ◌+◌, ◌-◌, ◌/◌, ◌%◌, ◌^◌, ◌<◌, ◌≤◌, List, [], ◌∷◌, ◌++◌, length, get_or, drop, Err, decimal, sym, ap, ◌∙◌, add_assoc, arith, length-drop}
-use Rattle.std.proofs.lemmas.Fmt.{decimal_digit, decimal_step}
+use Rattle.std.proofs.Common.{◌≡◌, ℕ, suc, ◌+◌, ◌-◌, ◌<◌, ◌≤◌, List, [], ◌∷◌, ◌++◌, length, get_or, drop, Err, decimal, sym, ap, ◌∙◌, add_assoc, arith, length-drop}
 use Rattle.std.proofs.lemmas.List.{drop-drop, get_or-drop, append_assoc}
 use Rattle.std.proofs.lemmas.Bool.{lt-ltb, le-ltb}
 use Rattle.text.specs.declared.fault.Fault.{Fault}
@@ -62,15 +61,6 @@ module _ (line xs : List ℕ) (i : ℕ) where
         ∙ (ap (λ m. got (line ++ cell_line l m (word_at (drop i xs) 12)) (drop 16 (drop i xs))) eq
         ∙ (ap (λ m. got (line ++ cell_line l p m) (drop 16 (drop i xs))) et
         ∙ ap (got (line ++ cell_line l p s)) (drop-drop 16 i xs))))
-
--- the digits of a number, as the code appends them
-pub digits_one : (line : List ℕ) (n : ℕ) → n < 10 → line ++ ((48 + n % 10) ∷ []) ≡ line ++ decimal n
-digits_one line n h =
-    let e : 48 + n % 10 ≡ 48 + n = omega arith in
-    ap (λ d. line ++ (d ∷ [])) e ∙ ap (λ ds. line ++ ds) (sym (decimal_digit n h))
-
-pub digits_more : (line : List ℕ) (n : ℕ) → 10 ≤ n → n < 2 ^ 64 → (line ++ decimal (n / 10)) ++ ((48 + n % 10) ∷ []) ≡ line ++ decimal n
-digits_more line n h small = append_assoc line (decimal (n / 10)) ((48 + n % 10) ∷ []) ∙ ap (λ ds. line ++ ds) (sym (decimal_step n h small))
 
 -- a cell's three parts, as the code appends them
 pub cell_parts : (line mark escape : List ℕ) (l : ℕ) → ((line ++ mark) ++ escape) ++ (l ∷ []) ≡ line ++ (mark ++ (escape ++ (l ∷ [])))

@@ -7,6 +7,7 @@ ghost use Rattle.text.specs.Lines.{got, Spells, Fails, Lacks};
 ghost use Rattle.text.specs.Shown.{word_at, mark_line, escape_line, cell_line, number_shown, spaced_shown, cell_shown, counted, row_shown, refusal_shown, pair_shown, table_shown, numbers_shown, form_shown, answer_shown, answer_line, showable};
 
 use crate::fault::Fault;
+use itoa::Buffer;
 use std::alloc::{AllocError, Global};
 
 fn word(bytes: &[u8], at: usize) -> u32
@@ -16,14 +17,12 @@ fn word(bytes: &[u8], at: usize) -> u32
     u32::from_le_bytes([bytes[at], bytes[at + 1], bytes[at + 2], bytes[at + 3]])
 }
 
-fn push_number(out: &mut Vec<u8>, n: u32) -> Result<(), AllocError>
+// The decimal digits of `n`.
+pub fn push_number(out: &mut Vec<u8>, n: u64) -> Result<(), AllocError>
     ensures { OnOk result (out.new.items ≡ out.old.items ++ decimal n) }
 {
-    if n >= 10 {
-        push_number(out, n / 10)?;
-    }
-    out.push(b'0' + (n % 10) as u8)?;
-    Ok(())
+    let mut digits = Buffer::new();
+    out.extend_from_slice(digits.format(n).as_bytes())
 }
 
 // What stands before a letter that is put in, struck out, or both.
@@ -46,7 +45,8 @@ fn escape_of(letter: u8) -> &'static [u8]
     }
 }
 
-fn push_cell(out: &mut Vec<u8>, letter: u8, put_in: u32, struck: u32) -> Result<(), AllocError>
+// A letter, with its marks before it.
+pub fn push_cell(out: &mut Vec<u8>, letter: u8, put_in: u32, struck: u32) -> Result<(), AllocError>
     ensures { OnOk result (out.new.items ≡ out.old.items ++ cell_line letter put_in struck) }
 {
     out.extend_from_slice(mark_of(put_in, struck))?;
@@ -63,7 +63,7 @@ fn number(bytes: &[u8], at: usize, out: &mut Vec<u8>) -> Result<usize, Fault>
     if bytes.len() - at < 4 {
         return Err(Fault::Place(at));
     }
-    push_number(out, word(bytes, at))?;
+    push_number(out, word(bytes, at) as u64)?;
     Ok(at + 4)
 }
 

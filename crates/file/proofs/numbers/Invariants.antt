@@ -1,10 +1,10 @@
--- The first words were read, and the rest begins here.
-use Rattle.std.proofs.Common.{◌-◌, length}
-use Rattle.file.proofs.Scan.{Reads}
+-- The words that came were read.
+use Rattle.std.proofs.Common.{map}
+use Rattle.file.proofs.WordSteps.{Reads}
 use Rattle.file.proofs.numbers.Given as goal
 
-abbrev pub invariant-loop-at : goal.invariant-loop-at
-invariant-loop-at l = Reads l.text l.initial.out l.out l.at l.count
-
-abbrev pub decreases-loop-at : goal.decreases-loop-at
-decreases-loop-at l = length l.text - l.at
+abbrev pub invariant-loop-word : goal.invariant-loop-word
+invariant-loop-word l =
+    (goal.iterator-loop-word).can_next l.word-iterator
+    × (goal.iterator-loop-word).is_finite l.word-iterator
+    × Reads l.initial.out l.out (map (λ w. w.now) l.yielded) l.count

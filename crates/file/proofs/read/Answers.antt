@@ -1,33 +1,52 @@
 -- Each way out, by the lemmas on files and their beginnings.
-use Rattle.std.proofs.Common.{◌≡◌, ℕ, ◌+◌, ◌-◌, ◌*◌, ◌%◌, length, get_or, refl, ap, arith}
+use Rattle.std.proofs.Common.{List, rules, ◌≡◌, ℕ, ◌-◌, ◌*◌, ◌%◌, length, get_or, ap, arith}
+use borrow.Author.Tests.{tests}
 use native.Mathlib.Nat.{mul-mod_right}
+use Rattle.std.proofs.lemmas.Iterator.{first_from_Range}
+use Rattle.file.specs.Places.{NumberFits}
 use Rattle.file.proofs.Beginnings.{whole, misfit, short, begins}
 use Rattle.file.proofs.read.Goals as goal
-use Rattle.file.proofs.read.Goals.{then-len-before-via-then-len-before, then-len-before-via-else-len-before+then-len-before-gt0}
+use Rattle.file.proofs.read.Goals.{then-rest-changes-via-then-rest-changes, then-rest-changes-via-else-rest-changes+then-rest-changes-gt0}
 
-pub returns-then-not-number_fits : goal.returns-then-not-number_fits
-returns-then-not-number_fits c =
-    record { within = omega arith; begins = begins _ _ (omega arith) c.loop-i.invariant; ends = misfit _ _ (omega arith) c.if-not-number_fits.ensures }
+pub returns-in-Some : goal.returns-in-Some
+returns-in-Some c =
+    let ns = c.args.numbers.now in
+    let f =
+    rw c.in-Some.is at
+    (first_from_Range _ _ _ c.find.result (λ i. NumberFits ns i → ⊥) (NumberFits ns) c.find.ensures.ran (λ x q k. search (rules, tests)) (λ x q k. search (rules, tests))) in
+    record { within = omega (arith, f.1); begins = begins _ _ (omega (arith, f.1)) (λ k h. f.3 k (omega arith) h); ends = misfit _ _ f.1 f.2 }
 
-pub returns-then-len-eq0 : goal.returns-then-len-eq0
-returns-then-len-eq0 c =
-    record { within = omega arith; begins = begins _ _ (omega arith) (λ k h. absurd (omega arith)); ends = short _ (λ n m e l. omega arith) }
+pub returns-in_default-split_first : goal.returns-in_default-split_first
+returns-in_default-split_first c =
+    let h : length c.args.numbers.now ≡ 0 = c.in_default-split_first.ensures.cases in
+    record { within = omega arith; begins = begins c.args.numbers.now 0 (omega arith) (λ k h. absurd (omega arith)); ends = rw h at (short c.args.numbers.now (λ n m e l. omega arith)) }
 
-pub returns-then-len-before : goal.returns-then-len-before
-returns-then-len-before c =
+pub returns-then-rest-changes : goal.returns-then-rest-changes
+returns-then-rest-changes c =
+    let ns = c.args.numbers.now in
+    let f =
+    rw c.in_default.is at
+    (first_from_Range _ _ _ c.find.result (λ i. NumberFits ns i → ⊥) (NumberFits ns) c.find.ensures.ran (λ x q k. search (rules, tests)) (λ x q k. search (rules, tests))) in
+    let p = c.in-Some-split_first.ensures.cases in
+    let first : get_or ns 0 0 ≡ c.in-Some-split_first.changes.now = ap (λ (vs : List ℕ). get_or vs 0 0) p.0 in
     record {
       within = omega arith;
-      begins = begins _ _ (omega arith) (λ k h. c.loop-i.invariant k (omega arith));
+      begins = begins _ _ (omega arith) (λ k h. f k (omega arith) (omega arith));
       ends =
           short _ (λ n m e l.
-          elim c.then-len-before.branch [
-            | then-len-before-via-then-len-before w ↦ omega arith
-            | then-len-before-via-else-len-before+then-len-before-gt0 w ↦
-                let ns = c.args.numbers.now in
-                let d : length ns - (1 + 2 * get_or ns 0 0) ≡ 4 * m = omega arith in
+          elim c.then-rest-changes.branch [
+            | then-rest-changes-via-then-rest-changes w ↦ omega (arith, p.1)
+            | then-rest-changes-via-else-rest-changes+then-rest-changes-gt0 w ↦
+                let d : length c.in-Some-split_first.rest.now - 2 * c.in-Some-split_first.changes.now ≡ 4 * m = omega (arith, p.1) in
                 omega (arith, ap (λ (i : ℕ). i % 4) d, mul-mod_right 4 m)
           ]);
     }
 
 pub returns : goal.returns
-returns c = whole _ _ _ (omega arith) refl (λ i h. c.loop-i.invariant i (omega arith))
+returns c =
+    let ns = c.args.numbers.now in
+    let f =
+    rw c.in_default.is at
+    (first_from_Range _ _ _ c.find.result (λ i. NumberFits ns i → ⊥) (NumberFits ns) c.find.ensures.ran (λ x q k. search (rules, tests)) (λ x q k. search (rules, tests))) in
+    let p = c.in-Some-split_first.ensures.cases in
+    whole _ _ _ (omega (arith, p.1)) (ap (λ (vs : List ℕ). get_or vs 0 0) p.0) (λ i h. f i (omega arith) (omega arith))

@@ -1,4 +1,4 @@
-use Rattle.file.proofs.Scan.{words_are}
+use Rattle.file.proofs.WordSteps.{words_are}
 use Rattle.file.proofs.words_are.Goals as goal
 
 pub returns : goal.returns

@@ -1,18 +1,15 @@
-use Rattle.std.proofs.Common.{◌≡◌, ◌-◌, arith}
+use Rattle.std.proofs.Common.{refl}
 use Rattle.printing.proofs.Texts.{all_read, stops_whole, stops_early}
 use Rattle.printing.proofs.reading.numbers_of.Goals as goal
 
 pub returns-in-Ok : goal.returns-in-Ok
 returns-in-Ok c =
-    let e : c.in-Ok.n - 0 ≡ c.in-Ok.n = omega arith in
-    all_read c.args.text.now c.args.room.now c.numbers.new.out c.in-Ok.n c.requires c.in-Ok.ensures (c.in-Ok.n - 0) e c.read.result c.read.ensures
+    all_read c.args.text.now c.args.room.now c.numbers.new.out c.in-Ok.n c.requires c.in-Ok.ensures c.in-Ok.n refl c.read.result c.read.ensures
 
 pub returns-in-Ok-read : goal.returns-in-Ok-read
 returns-in-Ok-read c =
-    let e : c.in-Err.n - 0 ≡ c.in-Err.n = omega arith in
-    stops_whole c.args.text.now c.args.room.now c.numbers.new.out c.in-Err.n c.requires c.in-Err.ensures (c.in-Err.n - 0) e _ _ c.in-Ok-read.ensures
+    stops_whole c.args.text.now c.args.room.now c.numbers.new.out c.in-Err.n c.requires c.in-Err.ensures c.in-Err.n refl _ _ c.in-Ok-read.ensures
 
 pub returns-in-Err-read : goal.returns-in-Err-read
 returns-in-Err-read c =
-    let e : c.in-Err.n - 0 ≡ c.in-Err.n = omega arith in
-    stops_early c.args.text.now c.args.room.now c.numbers.new.out c.in-Err.n c.requires c.in-Err.ensures (c.in-Err.n - 0) e c.in-Err-read.i c.in-Err-read.ensures
+    stops_early c.args.text.now c.args.room.now c.numbers.new.out c.in-Err.n c.requires c.in-Err.ensures c.in-Err.n refl c.in-Err-read.i c.in-Err-read.ensures

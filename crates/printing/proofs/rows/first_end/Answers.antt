@@ -1,32 +1,17 @@
-use Rattle.std.proofs.Common.{◌<◌, ◌≤◌, min, length, sym, ap, ◌∙◌, arith}
-use Rattle.std.proofs.lemmas.List.{length-map, get_or-map}
-use Rattle.model.specs.Paper.{Cell}
-use Rattle.printing.specs.Values.{cell_of, cells_of, none}
-use Rattle.printing.proofs.Shown.{end_found, end_more, end_last}
+use Rattle.std.proofs.Common.{rules, eqb, take, ap, ◌∙◌}
+use borrow.Author.Tests.{tests}
+use Rattle.std.proofs.lemmas.Iterator.{YieldsList-from_slice, YieldsList-from_take}
+use Rattle.std.proofs.lemmas.Iterator.Adapters.{position_from-zero}
+use Rattle.std.proofs.lemmas.Iterator.Consumers.{YieldsList-at}
+use Rattle.std.proofs.lemmas.Iterator.Search.{position_from_yields_List}
+use Rattle.printing.specs.declared.reading.Cell.{Cell}
+use Rattle.printing.specs.Values.{after_place}
+use Rattle.printing.proofs.Shown.{end_place}
 use Rattle.printing.proofs.rows.first_end.Goals as goal
-
-pub returns-then-cells-i-eq-END : goal.returns-then-cells-i-eq-END
-returns-then-cells-i-eq-END c =
-    let xs = c.args.cells.now in
-    let i = c.loop-i.i in
-    let h : i < length xs = omega arith in
-    let l : i < length (cells_of xs) = omega (arith, length-map xs cell_of) in
-    let w : i < 65 = omega arith in
-    let e = ap (λ (x : Cell). x.letter) (get_or-map cell_of xs i none (cell_of none) h) in
-    sym (c.loop-i.invariant ∙ end_found (cells_of xs) 65 i (cell_of none) l w (e ∙ c.if-cells-i-eq-END.true))
-
-pub loop-i-preserved : goal.loop-i-preserved
-loop-i-preserved c =
-    let xs = c.args.cells.now in
-    let i = c.loop-i.i in
-    let h : i < length xs = omega arith in
-    let l : i < length (cells_of xs) = omega (arith, length-map xs cell_of) in
-    let w : i < 65 = omega arith in
-    let e = ap (λ (x : Cell). x.letter) (get_or-map cell_of xs i none (cell_of none) h) in
-    c.loop-i.invariant ∙ end_more (cells_of xs) 65 i (cell_of none) l w (λ q. c.if-cells-i-eq-END.false (sym e ∙ q))
 
 pub returns : goal.returns
 returns c =
-    let xs = c.args.cells.now in
-    let h : min (length (cells_of xs)) 65 ≤ c.loop-i.i = omega (arith, length-map xs cell_of) in
-    sym (c.loop-i.invariant ∙ end_last (cells_of xs) 65 c.loop-i.i h)
+    let p =
+    position_from_yields_List (λ x. eqb x.letter 10) _ _ _ c.position.ensures.ran
+    (YieldsList-from_take 65 (YieldsList-at c.take.ensures.source (YieldsList-from_slice c.args.cells.now (cc))) c.take.ensures.count) (λ x b q k. search (rules, tests)) in
+    ap after_place (p ∙ position_from-zero (λ (x : Cell). eqb x.letter 10) (take 65 c.args.cells.now)) ∙ end_place c.args.cells.now 65 0

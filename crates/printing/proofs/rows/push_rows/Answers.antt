@@ -1,4 +1,4 @@
-use Rattle.std.proofs.Common.{◌≡◌, ◌+◌, ◌-◌, List, ◌++◌, vec_items, sym, subst, arith}
+use Rattle.std.proofs.Common.{◌≡◌, ◌+◌, List, ◌++◌, vec_items, sym, refl, subst, arith}
 use Rattle.std.proofs.lemmas.List.{take_rest, length-drop}
 use Rattle.model.specs.Rows as model
 use Rattle.printing.specs.declared.reading.Cell.{Cell}
@@ -20,10 +20,9 @@ pub loop-rest-preserved : goal.loop-rest-preserved
 loop-rest-preserved c =
     let rest = c.loop-rest.rest.now in
     let row = c.first_row-row.result in
-    let whole = vec_items c.args.out.now ++ rows_printed (model.rows 64 (cells_of c.args.cells.now)) in
-    let e : row.long - 0 ≡ row.long = omega arith in (
+    let whole = vec_items c.args.out.now ++ rows_printed (model.rows 64 (cells_of c.args.cells.now)) in (
       subst (λ (ys : List Cell). vec_items c.push_row.new.out ++ rows_printed (model.rows 64 (cells_of ys)) ≡ whole) (sym (take_rest rest (row.long + row.skips)))
-          (rows_go (vec_items c.loop-rest.out) (vec_items c.push_row.new.out) whole rest row (row.long - 0) c.first_row-row.ensures c.loop-rest-test.true e c.in_ok-push_row.ensures c.loop-rest.invariant.0),
+          (rows_go (vec_items c.loop-rest.out) (vec_items c.push_row.new.out) whole rest row row.long c.first_row-row.ensures c.loop-rest-test.true refl c.in_ok-push_row.ensures c.loop-rest.invariant.0),
       simp (take_rest, length-drop) (omega (arith, c.loop-rest.invariant.1)),
     )
 

@@ -1,28 +1,17 @@
-use Rattle.std.proofs.Common.{List, vec_items, sym, ap, ◌∙◌}
-use Rattle.std.proofs.lemmas.List.{take_all}
-use Rattle.model.specs.Paper as paper
-use Rattle.printing.specs.declared.reading.Cell.{Cell}
-use Rattle.printing.specs.Values.{cells_of, number_of, none}
-use Rattle.printing.proofs.Shown.{view_none, view_step, view_pass}
+use Rattle.std.proofs.Common.{rules}
+use borrow.Author.Tests.{tests}
+use Rattle.std.proofs.lemmas.Iterator.{items_from_collect, YieldsList-from_slice}
+use Rattle.std.proofs.lemmas.Iterator.Consumers.{YieldsList-at, YieldsList-from_copied, YieldsList-from_filter}
+use Rattle.model.specs.Paper.{seen}
+use Rattle.model.specs.Values.{way_number}
+use Rattle.printing.specs.Values.{cell_of}
+use Rattle.printing.proofs.Shown.{viewed}
 use Rattle.printing.proofs.rows.view.Goals as goal
-use Rattle.printing.proofs.rows.view.Goals.{then-sees+in_ok-push, else-sees}
-
-pub loop-x-init : goal.loop-x-init
-loop-x-init c = ap cells_of c.new-seen.ensures.items ∙ sym (view_none (number_of c.args.way))
-
-pub loop-x-preserved : goal.loop-x-preserved
-loop-x-preserved c =
-    let k = number_of c.args.way in
-    let i = c.loop-x.x-index in
-    let cells = c.args.cells.now in
-    let before = vec_items c.loop-x.seen in
-    elim c.if-sees.branch [
-      | then-sees+in_ok-push w ↦
-          ap (λ v. cells_of (vec_items v)) w.seen-is
-          ∙ view_step k i cells before none c.loop-x-test.true c.loop-x.invariant (vec_items w.push.new.self) (sym c.sees.ensures ∙ w.if-sees.true) w.in_ok-push.ensures.items
-      | else-sees w ↦
-          ap (λ v. cells_of (vec_items v)) w.seen-is ∙ view_pass k i cells before none c.loop-x-test.true c.loop-x.invariant (sym c.sees.ensures ∙ w.if-sees.false)
-    ]
 
 pub returns : goal.returns
-returns c = c.loop-x.invariant ∙ ap (λ (ys : List Cell). paper.view (number_of c.args.way) (cells_of ys)) (take_all c.loop-x.x-index c.args.cells.now c.loop-x-test.false)
+returns c =
+    viewed (way_number c.args.way) c.args.cells.now _
+    (items_from_collect _ c.collect.ensures.ran
+    (YieldsList-from_filter _ (λ x. seen (way_number c.args.way) (cell_of x))
+    (YieldsList-at c.filter.ensures.source (YieldsList-from_copied (YieldsList-at c.copied.ensures.source (YieldsList-from_slice c.args.cells.now (cc)))))
+    c.filter.ensures.closure (λ x b q k. search (rules, tests))))
