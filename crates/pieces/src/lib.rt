@@ -79,6 +79,7 @@ pub fn add_mark(p: &mut [u32], s: usize, k: usize, mark: u32)
 }
 
 // Makes the set of marks of piece `k` anew: it then has the marks of its cells, and no others.
+// The slices apart, as the cells are only read.
 pub fn remark(c: &[u32], p: &mut [u32], s: usize, k: usize)
     requires store { Store c.now p.old s }
     requires here { k < s }
@@ -93,6 +94,7 @@ pub fn remark(c: &[u32], p: &mut [u32], s: usize, k: usize)
     note_cells(p, i, slots::part(c, CELLS * i, n));
 }
 
+// The slices apart, as there is no text in them yet.
 // Makes an empty text in `s` slots. Every word of the slots, the order, the tree and the sets is known afterwards.
 pub fn clear(c: &mut [u32], p: &mut [u32], s: usize)
     requires some { 0 < s }
@@ -129,6 +131,8 @@ fn enumerate(w: &mut [u32], n: usize)
         *word = i as u32;
     }
 }
+
+// From here to `pour` functions take the slices of a text apart, as they work while what always holds of a text does not.
 
 // Piece `k` gets the length `n`. The counts above it are not right afterwards.
 fn set_length(p: &mut [u32], k: usize, n: usize)

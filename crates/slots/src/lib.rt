@@ -44,7 +44,8 @@ pub fn part(c: &[u32], a: usize, n: usize) -> &[u32]
     &c[4 * a..4 * (a + n)]
 }
 
-// Copies `n` cells from number `from` on to number `to` on. The two runs may overlap.
+// Copies `n` cells from number `from` on to number `to` on.
+// By their numbers, as the two runs stand in the same words and may overlap.
 pub fn copy(c: &mut [u32], from: usize, to: usize, n: usize)
     requires source { 4 * (from + n) ≤ length c.old }
     requires target { 4 * (to + n) ≤ length c.old }
