@@ -186,8 +186,7 @@ fn note_cells(p: &mut [u32], i: usize, cells: &[u32])
     requires words { 10240 ≤ length p.old }
     ensures { p.new ≡ noted_cells p.old i (all_cells cells.now) }
 {
-    for j in 0..cells.len() / 4 {
-        let cell = slots::read(cells, j);
+    for cell in (slots::Cells { words: cells }) {
         note(p, i, cell.put_in);
         note(p, i, cell.struck);
     }
@@ -234,12 +233,7 @@ fn remove_cells(c: &mut [u32], p: &[u32], s: usize, at: Spot, n: usize)
     ensures { Filled c.old c.new p.now at.piece (replaced (piece c.old p.now at.piece) at.offset n []) }
 {
     let number = number_of(p, s, at.piece, at.offset);
-    slots::copy(
-        c,
-        number + n,
-        number,
-        used(p, at.piece) - (at.offset + n),
-    );
+    slots::copy(c, number + n, number, used(p, at.piece) - (at.offset + n));
 }
 
 // Copies `n` cells, from the spot `from` on, into the slot of piece `i` behind its cells.
@@ -318,9 +312,7 @@ fn rotate(p: &mut [u32], from: usize, to: usize)
     requires within { to < length p.old }
     ensures { Rotated p.old p.new from to }
 {
-    let last = p[to];
-    p.copy_within(from..to, from + 1);
-    p[from] = last;
+    p[from..to + 1].rotate_right(1);
 }
 
 // Cuts a piece at a spot: the last piece, which is empty, moves behind it and takes what follows.
