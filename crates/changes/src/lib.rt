@@ -51,6 +51,7 @@ pub fn add(words: &mut [u32], n: usize, author: u32)
 }
 
 // What became of change number k, of n; no other word moves.
+// A number, as a `Change` has it.
 pub fn decide(words: &mut [u32], n: usize, k: usize, became: u32)
     requires { (k < n) × (2 * n ≤ length words.old) }
     ensures row { changes_of words.new n ≡ with_became (changes_of words.old n) k became }

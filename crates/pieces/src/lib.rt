@@ -79,6 +79,7 @@ pub fn add_mark(p: &mut [u32], s: usize, k: usize, mark: u32)
 }
 
 // Makes the set of marks of piece `k` anew: it then has the marks of its cells, and no others.
+// The slices apart, as the cells are only read.
 pub fn remark(c: &[u32], p: &mut [u32], s: usize, k: usize)
     requires store { Store c.now p.old s }
     requires here { k < s }
@@ -93,6 +94,7 @@ pub fn remark(c: &[u32], p: &mut [u32], s: usize, k: usize)
     note_cells(p, i, slots::part(c, CELLS * i, n));
 }
 
+// The slices apart, as there is no text in them yet.
 // Makes an empty text in `s` slots. Every word of the slots, the order, the tree and the sets is known afterwards.
 pub fn clear(c: &mut [u32], p: &mut [u32], s: usize)
     requires some { 0 < s }
@@ -129,6 +131,8 @@ fn enumerate(w: &mut [u32], n: usize)
         *word = i as u32;
     }
 }
+
+// From here to `pour` functions take the slices of a text apart, as they work while what always holds of a text does not.
 
 // Piece `k` gets the length `n`. The counts above it are not right afterwards.
 fn set_length(p: &mut [u32], k: usize, n: usize)
@@ -182,8 +186,7 @@ fn note_cells(p: &mut [u32], i: usize, cells: &[u32])
     requires words { 10240 ≤ length p.old }
     ensures { p.new ≡ noted_cells p.old i (all_cells cells.now) }
 {
-    for j in 0..cells.len() / 4 {
-        let cell = slots::read(cells, j);
+    for cell in (slots::Cells { words: cells }) {
         note(p, i, cell.put_in);
         note(p, i, cell.struck);
     }
@@ -230,12 +233,7 @@ fn remove_cells(c: &mut [u32], p: &[u32], s: usize, at: Spot, n: usize)
     ensures { Filled c.old c.new p.now at.piece (replaced (piece c.old p.now at.piece) at.offset n []) }
 {
     let number = number_of(p, s, at.piece, at.offset);
-    slots::copy(
-        c,
-        number + n,
-        number,
-        used(p, at.piece) - (at.offset + n),
-    );
+    slots::copy(c, number + n, number, used(p, at.piece) - (at.offset + n));
 }
 
 // Copies `n` cells, from the spot `from` on, into the slot of piece `i` behind its cells.
@@ -314,9 +312,7 @@ fn rotate(p: &mut [u32], from: usize, to: usize)
     requires within { to < length p.old }
     ensures { Rotated p.old p.new from to }
 {
-    let last = p[to];
-    p.copy_within(from..to, from + 1);
-    p[from] = last;
+    p[from..to + 1].rotate_right(1);
 }
 
 // Cuts a piece at a spot: the last piece, which is empty, moves behind it and takes what follows.

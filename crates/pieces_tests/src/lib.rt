@@ -2,12 +2,12 @@
 // In a crate of its own, since a crate with tests is proved twice.
 #![tactic(auto)]
 
-ghost use Rattle.std.specs.Prelude.{◌≤◌, length};
-ghost use Rattle.pieces.specs.Store.{Store};
+ghost use Rattle.std.specs.Prelude.{◌≡◌, ◌≤◌, length};
 
 #[cfg(test)]
 mod tests {
     use model::Cell;
+    use pieces::{Text, TextMut};
     use std::process::Abort;
     use std::test::Fail;
 
@@ -16,24 +16,18 @@ mod tests {
     // As many cells as five slots take for sure.
     const MOST: usize = 3072;
 
-    // The store holds the first `n` cells of the row, and their marks are in the sets.
-    fn same(rt: &impl Abort, c: &[u32], p: &[u32], row: &[Cell], n: usize) -> Result<(), Fail>
-        requires { Store c.now p.now 5 }
-    {
-        assert!(rt; n <= row.len());
-        assert!(rt; pieces::count(p, SLOTS) == n);
-        for place in 0..n {
-            let spot = pieces::locate(p, SLOTS, place);
-            let cell = pieces::cell(c, p, SLOTS, spot.piece, spot.offset);
-            assert!(rt; cell.letter == row[place].letter);
-            assert!(rt; cell.style == row[place].style);
-            assert!(rt; cell.put_in == row[place].put_in);
-            assert!(rt; cell.struck == row[place].struck);
+    // The store holds the cells of the row, and their marks are in the sets.
+    fn same(rt: &impl Abort, text: &Text, row: &[Cell]) -> Result<(), Fail> {
+        assert!(rt; text.count() == row.len());
+        for (place, expected) in row.iter().enumerate() {
+            let spot = text.locate(place);
+            let cell = text.cell(spot.piece, spot.offset);
+            assert!(rt; cell == *expected);
             if cell.put_in > 0 {
-                assert!(rt; pieces::may_have(p, SLOTS, spot.piece, cell.put_in));
+                assert!(rt; text.may_have(spot.piece, cell.put_in));
             }
             if cell.struck > 0 {
-                assert!(rt; pieces::may_have(p, SLOTS, spot.piece, cell.struck));
+                assert!(rt; text.may_have(spot.piece, cell.struck));
             }
         }
         Ok(())
@@ -41,17 +35,16 @@ mod tests {
 
     // Puts letters into the store and into the row. Returns how many cells there are then.
     fn put(
-        c: &mut [u32],
-        p: &mut [u32],
+        text: &mut TextMut,
         row: &mut [Cell],
         place: usize,
         letters: &[u8],
         change: u32,
     ) -> Result<usize, Fail>
-        requires { Store c.old p.old 5 }
-        ensures { Store c.new p.new 5 }
+        requires { text.old.slots ≡ 5 }
+        ensures { text.new.slots ≡ 5 }
     {
-        let n = pieces::count(p, SLOTS);
+        let n = text.text().count();
         let more = letters.len();
         if more > 1024
             || n > MOST
@@ -62,11 +55,11 @@ mod tests {
         {
             return Err(Fail::new("no room"));
         }
-        pieces::put(c, p, SLOTS, place, letters, 3, change);
+        text.put(place, letters, 3, change);
         row.copy_within(place..n, place + more);
-        for i in 0..more {
-            row[place + i] = Cell {
-                letter: u32::from(letters[i]),
+        for (cell, letter) in row[place..place + more].iter_mut().zip(letters) {
+            *cell = Cell {
+                letter: u32::from(*letter),
                 style: 3,
                 put_in: change + 1,
                 struck: 0,
@@ -77,20 +70,19 @@ mod tests {
 
     // Takes `m` cells out of the store and out of the row. Returns how many cells there are then.
     fn remove(
-        c: &mut [u32],
-        p: &mut [u32],
+        text: &mut TextMut,
         row: &mut [Cell],
         place: usize,
         m: usize,
     ) -> Result<usize, Fail>
-        requires { Store c.old p.old 5 }
-        ensures { Store c.new p.new 5 }
+        requires { text.old.slots ≡ 5 }
+        ensures { text.new.slots ≡ 5 }
     {
-        let n = pieces::count(p, SLOTS);
+        let n = text.text().count();
         if n > row.len() || place > n || m > n - place {
             return Err(Fail::new("too many"));
         }
-        pieces::remove(c, p, SLOTS, place, m);
+        text.remove(place, m);
         row.copy_within(place + m..n, place);
         Ok(n - m)
     }
@@ -98,21 +90,19 @@ mod tests {
     // Writes one cell of the store and of the row.
     fn overwrite(
         rt: &impl Abort,
-        c: &mut [u32],
-        p: &mut [u32],
+        text: &mut TextMut,
         row: &mut [Cell],
         place: usize,
         cell: Cell,
-    ) -> Result<(), Fail>
-        requires { Store c.old p.old 5 }
-        ensures { Store c.new p.new 5 }
+    )
+        requires { text.old.slots ≡ 5 }
+        ensures { text.new.slots ≡ 5 }
     {
-        assert!(rt; place < pieces::count(p, SLOTS));
+        assert!(rt; place < text.text().count());
         assert!(rt; place < row.len());
-        let spot = pieces::locate(p, SLOTS, place);
-        pieces::overwrite(c, p, SLOTS, spot.piece, spot.offset, cell);
+        let spot = text.text().locate(place);
+        text.overwrite(spot, cell);
         row[place] = cell;
-        Ok(())
     }
 
     // All letters in turn.
@@ -127,12 +117,11 @@ mod tests {
     // Many edits, one after the other.
     fn run(
         rt: &impl Abort,
-        c: &mut [u32],
-        p: &mut [u32],
+        text: &mut TextMut,
         row: &mut [Cell],
         letters: &[u8],
     ) -> Result<(), Fail>
-        requires store { Store c.old p.old 5 }
+        requires slots { text.old.slots ≡ 5 }
         requires letters { 300 ≤ length letters.now }
     {
         let mut n = 0;
@@ -142,9 +131,9 @@ mod tests {
             let many = 1 + seed % 299;
             let place = seed % (n.min(MOST) + 1);
             if n <= MOST && n + many <= MOST {
-                n = put(c, p, row, place, &letters[0..many], change)?;
+                n = put(text, row, place, &letters[0..many], change)?;
             } else {
-                n = remove(c, p, row, place / 2, n / 3)?;
+                n = remove(text, row, place / 2, n / 3)?;
             }
             let cell = Cell {
                 letter: 10,
@@ -152,16 +141,17 @@ mod tests {
                 put_in: 0,
                 struck: change + 1,
             };
-            overwrite(rt, c, p, row, place / 2, cell)?;
-            same(rt, c, p, row, n)?;
+            overwrite(rt, text, row, place / 2, cell);
+            assert!(rt; n <= row.len());
+            same(rt, &text.text(), &row[..n])?;
         }
         Ok(())
     }
 
     #[test]
     fn edits(rt: HostRuntime) -> Result<(), Fail> {
-        let mut c = [7; 20480];
-        let mut p = [7; 10240];
+        let mut cells = [7; 20480];
+        let mut tables = [7; 10240];
         let none = Cell {
             letter: 0,
             style: 0,
@@ -171,7 +161,12 @@ mod tests {
         let mut row = [none; 3072];
         let mut letters = [0; 300];
         spell(&mut letters);
-        pieces::clear(&mut c, &mut p, SLOTS);
-        run(&rt, &mut c, &mut p, &mut row, &letters)
+        pieces::clear(&mut cells, &mut tables, SLOTS);
+        let mut text = TextMut {
+            cells: &mut cells,
+            tables: &mut tables,
+            slots: SLOTS,
+        };
+        run(&rt, &mut text, &mut row, &letters)
     }
 }

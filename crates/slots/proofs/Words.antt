@@ -1,5 +1,5 @@
 -- Laws of cells in words.
-use Rattle.std.proofs.Common.{◌≡◌, ℕ, zero, suc, ◌+◌, ◌-◌, ◌*◌, ◌/◌, ◌<◌, ◌≤◌, List, [], ◌∷◌, ◌++◌, length, get_or, take, drop, refl, ap, ◌∙◌, add-zero, add-suc, suc-add, zero-add, arith}
+use Rattle.std.proofs.Common.{◌≡◌, ℕ, zero, suc, ◌+◌, ◌-◌, ◌*◌, ◌/◌, ◌<◌, ◌≤◌, List, [], ◌∷◌, ◌++◌, length, get_or, take, drop, refl, sym, ap, ◌∙◌, add-zero, add-suc, suc-add, zero-add, arith}
 use Rattle.std.proofs.lemmas.List.{ext_get_or, get_or-drop, get_or-take, length-drop, length-take-le, take_at, drop_at}
 use Rattle.std.proofs.lemmas.List.Edits.{length-between}
 use Rattle.std.specs.List.{between}
@@ -139,3 +139,15 @@ pub length_new : (ls : List ℕ) (s c : ℕ) → length (new_cells ls s c) ≡ l
 unfolding new_cells
 length_new [] s c = refl
 length_new (x ∷ ls) s c = ap suc (length_new ls s c)
+
+-- the first cell of words, and those of the other words
+pub all_first : (w : List ℕ) → 4 ≤ length w → all_cells w ≡ cell_at w 0 ∷ all_cells (drop 4 w)
+unfolding cells_at
+all_first w h =
+    let n = length (drop 4 w) / 4 in
+    let l : length w / 4 ≡ suc n = omega (arith, length-drop 4 w) in
+    ap (cells_at w 0) l ∙ ap (λ xs. cell_at w 0 ∷ xs) (sym (cells_drop w 1 n))
+
+pub all_none : (w : List ℕ) → length w < 4 → all_cells w ≡ []
+unfolding cells_at
+all_none w h = let l : length w / 4 ≡ 0 = omega arith in ap (cells_at w 0) l

@@ -2,11 +2,38 @@
 #![tactic(auto)]
 
 ghost use Rattle.std.specs.Prelude.{◌≡◌, ◌+◌, ◌*◌, ◌/◌, ◌<◌, ◌≤◌, length};
+ghost use Rattle.std.specs.Iterator.{YieldsFirstBy, item_count};
 ghost use Rattle.model.specs.Paper.{new_cells};
 ghost use Rattle.model.specs.Values.{cell_of};
 ghost use Rattle.slots.specs.Cells.{all_cells, cell_at, cells_at, Kept};
 
 use model::Cell;
+
+/// The cells whose words are lent, one after the other.
+#[derive(Clone, Copy, Debug)]
+pub struct Cells<'a> {
+    pub words: &'a [u32],
+}
+
+impl<'a> Iterator for Cells<'a> {
+    type Item = Cell;
+
+    ghost next_gives = { YieldsFirstBy cell_of (λ s. all_cells s.words.now) };
+
+    ghost remaining = { item_count (λ s. all_cells s.words.now) };
+
+    fn next(&mut self) -> Option<Cell> {
+        let (first, others) = self.words.split_first_chunk::<4>()?;
+        let [letter, style, put_in, struck] = *first;
+        self.words = others;
+        Some(Cell {
+            letter,
+            style,
+            put_in,
+            struck,
+        })
+    }
+}
 
 // Cell number `a`.
 pub fn read(c: &[u32], a: usize) -> Cell
@@ -44,7 +71,8 @@ pub fn part(c: &[u32], a: usize, n: usize) -> &[u32]
     &c[4 * a..4 * (a + n)]
 }
 
-// Copies `n` cells from number `from` on to number `to` on. The two runs may overlap.
+// Copies `n` cells from number `from` on to number `to` on.
+// By their numbers, as the two runs stand in the same words and may overlap.
 pub fn copy(c: &mut [u32], from: usize, to: usize, n: usize)
     requires source { 4 * (from + n) ≤ length c.old }
     requires target { 4 * (to + n) ≤ length c.old }

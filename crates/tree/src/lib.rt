@@ -57,6 +57,7 @@ pub fn set(t: &mut [u32], k: usize, value: u32)
 {
     let mut node = LEAVES + k;
     t[node] = value;
+    // Not a `for`, as a node's number halves on the way up.
     while node > 1 {
         node /= 2;
         add_up(t, node);
@@ -72,6 +73,7 @@ pub fn rebuild(t: &mut [u32])
     ensures unused { slice_index t.new 0 ≡ slice_index t.old 0 }
     ensures rest { drop 4096 t.new ≡ drop 4096 t.old }
 {
+    // By number, as the children of a node are found by its number.
     for node in (1..LEAVES).rev() {
         add_up(t, node);
     }

@@ -1,6 +1,5 @@
-use Rattle.std.proofs.Common.{◌<◌}
-use Rattle.pieces.specs.Store.{Store}
+use Rattle.std.proofs.Common.{◌≡◌, ◌<◌}
 use Rattle.pieces_tests.proofs.tests.run.Given as goal
 
 abbrev pub invariant-loop-change : goal.invariant-loop-change
-invariant-loop-change g l = Store l.c l.p 5 × (l.seed < 65537)
+invariant-loop-change g l = (l.text.slots ≡ 5) × (l.seed < 65537)

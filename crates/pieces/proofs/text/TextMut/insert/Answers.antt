@@ -1,4 +1,4 @@
-use Rattle.std.proofs.Common.{◌+◌, refl, ap, ◌∙◌, arith}
+use Rattle.std.proofs.Common.{◌+◌, ap, ◌∙◌, arith}
 use Rattle.slots.specs.Cells.{all_cells}
 use Rattle.pieces.specs.Store.{before}
 use Rattle.pieces.specs.Edits.{replaced}

@@ -1,4 +1,4 @@
-use Rattle.std.proofs.Common.{◌≡◌, ◌+◌, ◌-◌, ◌*◌, ◌/◌, ◌<◌, ◌≤◌, ◌++◌, length, refl, ap, arith}
+use Rattle.std.proofs.Common.{◌+◌, ◌<◌, refl, ap, arith}
 use Rattle.slots.specs.Cells.{all_cells}
 use Rattle.slots.proofs.Words.{all_halves}
 use Rattle.pieces.specs.Edits.{replaced}

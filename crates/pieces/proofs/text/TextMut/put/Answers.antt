@@ -1,6 +1,5 @@
 use Rattle.std.proofs.Common.{length, ◌∙◌, arith}
 use Rattle.model.specs.Paper.{new_cells}
-use Rattle.slots.specs.Cells.{all_cells}
 use Rattle.slots.proofs.Words.{all_take}
 use Rattle.pieces.proofs.Edit.{put_as}
 use Rattle.pieces.proofs.text.TextMut.put.Goals as goal
