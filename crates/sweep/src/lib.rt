@@ -104,6 +104,7 @@ fn fate(cell: Cell, row: &Row, action: Action) -> Option<Cell>
 }
 
 // Writes what becomes of cell `i` behind the first `stay` cells, all counted from number `at` on. Returns how many there are now.
+// `at` stands beside the words, here and below, as the cells behind those that are swept are moved in the same words.
 fn sweep_cell(c: &mut [u32], row: &Row, at: usize, i: usize, stay: usize, action: Action) -> usize
     requires room { 4 * (at + i) + 4 ≤ length c.old }
     requires behind { stay ≤ i }
