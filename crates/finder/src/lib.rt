@@ -59,6 +59,7 @@ mod tests {
     fn place(letters: &[u8], text: &[u8]) -> usize
         requires { (1 ≤ length letters.now) × (length letters.now ≤ 256) }
     {
+        // As long as the longest letters may be.
         let mut table = [0; 256];
         prepare(letters, &mut table);
         let mut k = 0;

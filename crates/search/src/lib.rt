@@ -21,6 +21,7 @@ pub fn find(text: &Text, way: Way, from: u32, letters: &[u8]) -> Option<u32>
     requires most { length letters.now ≤ 256 }
     ensures { let found = find_in (view (way_number way) (cells_in text.now)) letters.now from 0 in MatchOption result (found ≡ 0) (λ place. found ≡ place + 1) }
 {
+    // As long as the longest letters may be, as a search gets no heap.
     let mut table = [0; MOST];
     finder::prepare(letters, &mut table);
     let mut matched = 0;

@@ -42,8 +42,10 @@ overflow_cast-result c =
 pub returns-then-matched-letters : goal.returns-then-matched-letters
 returns-then-matched-letters c =
     let g = c.in-Some.ensures.steps in
+    let p = g.1 in
     let n = gives_more (enumerate_source c.loop-place.place-iterator) _ c.in-Some.x (enumerate_source c.next.new.self) g.0 in
-    rw g.1 (sought_full _ _ _ (cell_of c.in-Some.x) _ _ _ _ c.loop-place.invariant.2 n (rw g.1 at c.if-place-from.true) _ c.step-matched.ensures c.if-matched-letters.true)
+    let f = sought_full _ _ _ (cell_of c.in-Some.x) _ _ _ _ c.loop-place.invariant.2 n (rw p at c.if-place-from.true) _ c.step-matched.ensures c.if-matched-letters.true in
+    omega arith
 
 pub loop-place-preserved-else-matched-letters : goal.loop-place-preserved-else-matched-letters
 loop-place-preserved-else-matched-letters c =
