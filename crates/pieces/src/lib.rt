@@ -125,8 +125,8 @@ fn enumerate(w: &mut [u32], n: usize)
     requires long { n ≤ length w.old }
     ensures { w.new ≡ range_with_len 0 n ++ drop n w.old }
 {
-    for i in 0..n {
-        w[i] = i as u32;
+    for (i, word) in w[..n].iter_mut().enumerate() {
+        *word = i as u32;
     }
 }
 
@@ -343,6 +343,7 @@ fn repack(c: &mut [u32], p: &mut [u32], s: usize)
     ensures spare { before p.old s < 768 * (s - 1) → uses p.new (s - 1) ≡ 0 }
 {
     let mut i = 0;
+    // By number, as each turn changes the words that hold the pieces.
     for j in 1..s {
         i = settle(c, p, s, i, j);
     }
@@ -361,6 +362,7 @@ fn settle(c: &mut [u32], p: &mut [u32], s: usize, i: usize, j: usize) -> usize
     ensures packed { Packed p.new result (j + 1) }
 {
     let mut i = i;
+    // Not a `for`, as a turn may stay at the same piece: it says with which piece to go on.
     while i < j && used(p, j) > 0 {
         i = pour(c, p, s, i, j);
     }

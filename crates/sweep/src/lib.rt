@@ -1,7 +1,7 @@
 // Strike, accept, reject and style over the cells of a text, said once: each is a sweep, which goes over cells in order, drops some and changes others.
 #![tactic(auto)]
 
-ghost use Rattle.std.specs.Prelude.{◌≡◌, ℕ, suc, ◌+◌, ◌*◌, ◌<◌, ◌≤◌, false, ◌||◌, List, ◌++◌, length, take, drop, ◌==◌, nat_eq};
+ghost use Rattle.std.specs.Prelude.{◌≡◌, ℕ, suc, ◌+◌, ◌*◌, ◌/◌, ◌<◌, ◌≤◌, false, ◌||◌, List, ◌++◌, length, take, drop, ◌==◌, nat_eq};
 ghost use Rattle.changes.specs.Rows.{changes_in};
 ghost use Rattle.model.specs.Paper.{Change, author_of, pick, touched as touches};
 ghost use Rattle.model.specs.Values.{cell_of};
@@ -9,7 +9,7 @@ ghost use Rattle.pieces.specs.Edits.{Changed, Filled, Resized};
 ghost use Rattle.pieces.specs.Marks.{Lacks};
 ghost use Rattle.pieces.specs.Store.{Order, Store, piece, slot, used};
 ghost use Rattle.pieces.specs.Text.{cells_in, cells_of_mut, Rewrites};
-ghost use Rattle.slots.specs.Cells.{Kept, cell_at, cells_at};
+ghost use Rattle.slots.specs.Cells.{Kept, all_cells, cell_at, cells_at};
 ghost use Rattle.sweep.specs.Sweep.{changed as afterwards, fate as fate_of, goes as is_gone, left_of, Noted, OneMeaning, swept, swept_run, SweptPiece};
 ghost use Rattle.std.specs.List.{AllByRecursion};
 ghost use Rattle.tree.specs.Tree.{Sums};
@@ -104,6 +104,7 @@ fn fate(cell: Cell, row: &Row, action: Action) -> Option<Cell>
 }
 
 // Writes what becomes of cell `i` behind the first `stay` cells, all counted from number `at` on. Returns how many there are now.
+// `at` stands beside the words, here and below, as the cells behind those that are swept are moved in the same words.
 fn sweep_cell(c: &mut [u32], row: &Row, at: usize, i: usize, stay: usize, action: Action) -> usize
     requires room { 4 * (at + i) + 4 ≤ length c.old }
     requires behind { stay ≤ i }
@@ -274,16 +275,15 @@ pub fn is_touched(cell: Cell, change: u32) -> bool
     is_mark(cell.put_in, change) || is_mark(cell.struck, change)
 }
 
-// How many of the `n` cells from number `at` on have the mark of the change.
-fn touched_cells(c: &[u32], at: usize, n: usize, change: u32) -> usize
-    requires { 4 * (at + n) ≤ length c.now }
-    ensures count { result ≡ touches (cells_at c.now at n) change }
-    ensures few { result ≤ n }
+// How many of the cells whose words `cells` has have the mark of the change.
+fn touched_cells(cells: &[u32], change: u32) -> usize
+    ensures count { result ≡ touches (all_cells cells.now) change }
+    ensures few { result ≤ length cells.now / 4 }
 {
     let mut count = 0;
     // An index, as cells are read from lent words.
-    for i in 0..n {
-        if is_touched(slots::read(c, at + i), change) {
+    for i in 0..cells.len() / 4 {
+        if is_touched(slots::read(cells, i), change) {
             count += 1;
         }
     }
@@ -299,7 +299,8 @@ fn touched_piece(text: &Text, k: usize, change: u32) -> usize
     if !may_be_in(text, k, change) {
         return 0;
     }
-    touched_cells(text.cells, text.number_of(k, 0), text.used(k), change)
+    let cells = slots::part(text.cells, text.number_of(k, 0), text.used(k));
+    touched_cells(cells, change)
 }
 
 /// How many cells have the mark of the change.

@@ -6,7 +6,7 @@ pub returns-clause-cells : goal.returns-clause-cells
 returns-clause-cells c =
     let left = c.sweep_cells-left.result in
     let e = c.sweep_cells-left.ensures in
-    kept_cells_below c.sweep_cells-left.new.c c.copy.new.c (c.args.at + left) c.args.behind c.copy.ensures.kept c.args.at left (omega arith) ∙ e.cells
+    kept_cells_below _ _ _ _ c.copy.ensures.kept c.args.at left (omega arith) ∙ e.cells
 
 pub returns-clause-moved : goal.returns-clause-moved
 returns-clause-moved c =
