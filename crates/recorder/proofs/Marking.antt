@@ -13,7 +13,7 @@ use Rattle.history.specs.Entry.{Mark, marks_of}
 use Rattle.history.specs.Words.{marks_written}
 use Rattle.history.proofs.Logging.{length_marks_written}
 use Rattle.history.proofs.Undoing.{length_marks}
-use Rattle.recorder.specs.Records.{Marked, written}
+use Rattle.recorder.specs.Records.{Marked}
 use Rattle.recorder.proofs.Splices.{written_at, written_front, written_from, written_none, written_one, written_more}
 use borrow.Rule.Slice.PartMut.{put_mid}
 

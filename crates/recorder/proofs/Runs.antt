@@ -1,5 +1,5 @@
 -- Cells copied: one after the other, and stretch by stretch of the text.
-use Rattle.std.proofs.Common.{◌≡◌, ℕ, zero, suc, ◌+◌, ◌-◌, ◌*◌, ◌/◌, ◌<◌, ◌≤◌, min, Bool, eqb, List, [], ◌∷◌, ◌++◌, length, get_or, take, drop, set, sym, refl, ap, ◌∙◌, append_assoc, arith, take-add}
+use Rattle.std.proofs.Common.{◌≡◌, ℕ, zero, suc, ◌+◌, ◌-◌, ◌*◌, ◌/◌, ◌<◌, ◌≤◌, min, Bool, eqb, List, [], ◌∷◌, ◌++◌, length, get_or, take, drop, set, sym, refl, ap, ◌∙◌, arith, take-add}
 use Rattle.std.specs.List.{between}
 use Rattle.std.proofs.lemmas.List.{length-append, length-drop, length-take-le, take_at, take-append-le, drop_at, drop-drop, nil_from_length}
 use Rattle.std.proofs.lemmas.List.Edits.{sets-eq}
@@ -7,7 +7,7 @@ use Rattle.model.specs.Paper.{pick, Cell, Change, cells_written, author_of}
 use Rattle.model.specs.Values.{cell_of}
 use Rattle.model.specs.declared.Cell as code
 use Rattle.slots.specs.Cells.{all_cells, cell_at, cells_at}
-use Rattle.slots.proofs.Words.{cell_same, length_cells, take_cells, drop_cells}
+use Rattle.slots.proofs.Words.{cell_same, take_cells, drop_cells}
 use Rattle.pieces.specs.Store.{slot, used, number, piece, strung, cells_of, before, Order, Store, Located}
 use Rattle.pieces.proofs.Texts.{length_piece, length_text, drop_text}
 use Rattle.history.specs.Entry.{staying}

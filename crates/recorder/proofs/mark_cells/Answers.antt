@@ -2,7 +2,7 @@
 use Rattle.std.proofs.Common.{◌≡◌, ◌+◌, ◌*◌, ◌/◌, [], ◌∷◌, length, refl, ap, arith}
 use Rattle.model.specs.Paper.{touched}
 use Rattle.model.specs.Values.{cell_of}
-use Rattle.slots.specs.Cells.{all_cells, cell_at, cells_at}
+use Rattle.slots.specs.Cells.{all_cells, cells_at}
 use Rattle.recorder.proofs.Marking.{marked_none, marked_front, marked_from, marked_more, cells_room}
 use Rattle.recorder.proofs.mark_cells.Goals as goal
 

@@ -1,6 +1,5 @@
 -- Room, the cells as they are, how many stay, and the head around them.
-use Rattle.std.proofs.Common.{◌≡◌, ◌+◌, take, drop, ◌-◌, length, refl, arith}
-use Rattle.std.proofs.lemmas.List.{take_rest, length-drop}
+use Rattle.std.proofs.Common.{◌+◌, take, drop, ◌-◌, length, refl, arith}
 use Rattle.model.specs.Paper.{Paper, cells_written}
 use Rattle.model.specs.Calls.{strikes}
 use Rattle.changes.specs.Rows.{changes_in}
