@@ -4,8 +4,12 @@ ghost use Rattle.history.specs.Head.{kind_number, kind_at, verdict_kind, head_li
 
 use model::Verdict;
 
-// How many words a head has.
+// How many words a head has, a cell, and a mark: its place before the cell.
 pub const HEAD: usize = 7;
+
+pub const CELL: usize = 4;
+
+pub const MARK: usize = 5;
 
 // The call that was done.
 #[derive(Clone, Copy, Debug, PartialEq, Eq, Hash)]

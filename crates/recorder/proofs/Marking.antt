@@ -1,5 +1,5 @@
 -- Marked cells written: one after the other, and piece by piece.
-use Rattle.std.proofs.Common.{◌≡◌, ℕ, suc, ◌+◌, ◌-◌, ◌*◌, ◌<◌, ◌≤◌, Bool, true, false, ◌||◌, eqb, List, [], ◌∷◌, ◌++◌, length, set, sym, refl, ap, ◌∙◌, subst, add-zero, add_assoc, zero-add, add-one, arith}
+use Rattle.std.proofs.Common.{◌≡◌, ℕ, suc, ◌+◌, ◌-◌, ◌*◌, ◌<◌, ◌≤◌, Bool, true, false, ◌||◌, eqb, List, [], ◌∷◌, ◌++◌, length, take, drop, set, sym, refl, ap, ◌∙◌, subst, add-zero, add_assoc, zero-add, add-one, arith}
 use Rattle.std.specs.List.{AllByRecursion}
 use Rattle.std.proofs.lemmas.Bool.{ne_eqb}
 use Rattle.model.specs.Paper.{pick, Cell, cells_written, touched}
@@ -13,8 +13,21 @@ use Rattle.history.specs.Entry.{Mark, marks_of}
 use Rattle.history.specs.Words.{marks_written}
 use Rattle.history.proofs.Logging.{length_marks_written}
 use Rattle.history.proofs.Undoing.{length_marks}
-use Rattle.recorder.specs.Records.{MarkedAt, written_at}
-use Rattle.recorder.proofs.Splices.{written_none, written_one, written_more}
+use Rattle.recorder.specs.Records.{Marked}
+use Rattle.recorder.proofs.Splices.{written_at, written_front, written_from, written_none, written_one, written_more}
+use borrow.Rule.Slice.PartMut.{put_mid}
+
+-- the marks of the cells xs, of which the first has place i, are written from word `to` on; they are n
+pub record MarkedAt (u new : List ℕ) (to : ℕ) (xs : List Cell) (change i n : ℕ) : Type 0 where
+  pub words : new ≡ written_at u to (marks_written (marks_of xs change i))
+  pub count : n ≡ touched xs change
+
+-- from the front, and in the words from a place on
+pub marked_front : (u new : List ℕ) (xs : List Cell) (c i n : ℕ) → MarkedAt u new 0 xs c i n → Marked u new xs c i n
+marked_front u new xs c i n h = record { words = h.words ∙ written_front u (marks_written (marks_of xs c i)); count = h.count }
+
+pub marked_from : (u new : List ℕ) (a k : ℕ) (xs : List Cell) (c i n : ℕ) → k ≡ length u - a → Marked (take k (drop a u)) new xs c i n → MarkedAt u (put_mid a k u new) a xs c i n
+marked_from u new a k xs c i n e h = record { words = written_from u (marks_written (marks_of xs c i)) new a k e h.words; count = h.count }
 
 -- a cell has the mark
 abbrev pub mark_in : Cell → ℕ → Bool
@@ -53,9 +66,9 @@ marks_long : (xs : List Cell) (c i : ℕ) → length (marks_written (marks_of xs
 marks_long xs c i = omega (arith, length_marks_written (marks_of xs c i), length_marks xs c i)
 
 -- no cells, and cells behind others
-pub marked_none : (u : List ℕ) (to c i : ℕ) → MarkedAt u u to [] c i 0
+pub marked_none : (u : List ℕ) (c i : ℕ) → MarkedAt u u 0 [] c i 0
 unfolding marks_of marks_written touched
-marked_none u to c i = record { words = sym (written_none u to); count = refl }
+marked_none u c i = record { words = sym (written_none u 0); count = refl }
 
 pub marked_join :
     (u v w : List ℕ) (to k : ℕ) (xs ys : List Cell) (c i j a b : ℕ) → MarkedAt u v to xs c i a → MarkedAt v w k ys c j b → k ≡ to + 5 * a → j ≡ i + length xs →
@@ -75,28 +88,30 @@ marked_join u v w to k xs ys c i j a b f g is-k is-j h =
 pub marked_as : (u new : List ℕ) (to c i n : ℕ) (xs ys : List Cell) → xs ≡ ys → MarkedAt u new to xs c i n → MarkedAt u new to ys c i n
 marked_as u new to c i n xs ys e h = subst (λ zs. MarkedAt u new to zs c i n) e h
 
+pub marked_same : (u new : List ℕ) (c i n : ℕ) (xs ys : List Cell) → xs ≡ ys → Marked u new xs c i n → Marked u new ys c i n
+marked_same u new c i n xs ys e h = subst (λ zs. Marked u new zs c i n) e h
+
 -- one cell
 pub touched_one : (x : Cell) (c : ℕ) → mark_in x c ≡ true → touched (x ∷ []) c ≡ 1
 unfolding touched
 touched_one x c e = ap (λ b. pick {A = ℕ} b 1 0 + 0) e
 
-pub marked_not : (u : List ℕ) (to : ℕ) (x : Cell) (c i : ℕ) → mark_in x c ≡ false → MarkedAt u u to (x ∷ []) c i 0
+pub marked_not : (u : List ℕ) (x : Cell) (c i : ℕ) → mark_in x c ≡ false → MarkedAt u u 0 (x ∷ []) c i 0
 unfolding marks_of marks_written touched
-marked_not u to x c i e =
+marked_not u x c i e =
     let ms : marks_of (x ∷ []) c i ≡ [] = ap (λ b. pick b (record { place = i; cell = x } ∷ []) []) e in
-    record { words = sym (ap (λ m. written_at u to (marks_written m)) ms ∙ written_none u to); count = sym (ap (λ b. pick {A = ℕ} b 1 0 + 0) e) }
+    record { words = sym (ap (λ m. written_at u 0 (marks_written m)) ms ∙ written_none u 0); count = sym (ap (λ b. pick {A = ℕ} b 1 0 + 0) e) }
 
 pub marked_one :
-    (u new : List ℕ) (to : ℕ) (x : Cell) (c i : ℕ) → mark_in x c ≡ true → to + 5 ≤ length u → new ≡ written_at (set u to i) (to + 1) (cells_written (x ∷ [])) →
-    MarkedAt u new to (x ∷ []) c i 1
+    (u new : List ℕ) (x : Cell) (c i : ℕ) → mark_in x c ≡ true → 5 ≤ length u → new ≡ written_at (set u 0 i) 1 (cells_written (x ∷ [])) → MarkedAt u new 0 (x ∷ []) c i 1
 unfolding marks_of marks_written touched cells_written
-marked_one u new to x c i e h is =
-    let one : set u to i ≡ written_at u to (i ∷ []) = written_one u to i (omega arith) in
+marked_one u new x c i e h is =
+    let one : set u 0 i ≡ written_at u 0 (i ∷ []) = written_one u 0 i (omega arith) in
     let ms : marks_of (x ∷ []) c i ≡ record { place = i; cell = x } ∷ [] = ap (λ b. pick b (record { place = i; cell = x } ∷ []) []) e in
     record {
       words =
-          is ∙ ap (λ v. written_at v (to + 1) (cells_written (x ∷ []))) one ∙ written_more u to (i ∷ []) (omega arith) (cells_written (x ∷ [])) (to + 1) refl
-          ∙ sym (ap (λ m. written_at u to (marks_written m)) ms);
+          is ∙ ap (λ v. written_at v 1 (cells_written (x ∷ []))) one ∙ written_more u 0 (i ∷ []) (omega arith) (cells_written (x ∷ [])) 1 refl
+          ∙ sym (ap (λ m. written_at u 0 (marks_written m)) ms);
       count = sym (touched_one x c e);
     }
 
@@ -114,13 +129,13 @@ cells_room w n i c l =
     omega arith
 
 pub marked_more :
-    (u v w cells : List ℕ) (to i c first a b : ℕ) (x : Cell) → x ≡ cell_at cells i → MarkedAt u v to (cells_at cells 0 i) c first a →
-    MarkedAt v w (to + 5 * a) (x ∷ []) c (first + i) b → to + 5 * touched (cells_at cells 0 i) c ≤ length u → MarkedAt u w to (cells_at cells 0 (i + 1)) c first (a + b)
-marked_more u v w cells to i c first a b x is f g h =
+    (u v w cells : List ℕ) (i c first a b : ℕ) (x : Cell) → x ≡ cell_at cells i → MarkedAt u v 0 (cells_at cells 0 i) c first a →
+    MarkedAt v w (5 * a) (x ∷ []) c (first + i) b → 5 * touched (cells_at cells 0 i) c ≤ length u → MarkedAt u w 0 (cells_at cells 0 (i + 1)) c first (a + b)
+marked_more u v w cells i c first a b x is f g h =
     let l = length_cells cells 0 i in
     let both : cells_at cells 0 i ++ (x ∷ []) ≡ cells_at cells 0 (i + 1) = ap (λ y. cells_at cells 0 i ++ (y ∷ [])) is ∙ sym (next_cells cells i) in
-    marked_as u w to c first (a + b) (cells_at cells 0 i ++ (x ∷ [])) (cells_at cells 0 (i + 1)) both
-    (marked_join u v w to (to + 5 * a) (cells_at cells 0 i) (x ∷ []) c first (first + i) a b f g refl (omega arith) h)
+    marked_as u w 0 c first (a + b) (cells_at cells 0 i ++ (x ∷ [])) (cells_at cells 0 (i + 1)) both
+    (marked_join u v w 0 (5 * a) (cells_at cells 0 i) (x ∷ []) c first (first + i) a b f g (omega arith) (omega arith) (omega (arith, h)))
 
 -- a piece: all its cells, or none if it lacks the mark
 pub piece_is : (cells p : List ℕ) (k from n : ℕ) → from ≡ number p k 0 → n ≡ used p k → cells_at cells from n ≡ piece cells p k
@@ -134,11 +149,11 @@ unfolding marks_of
 lacks_not [] c i all = refl
 lacks_not (x ∷ xs) c i all = rw (ne_eqb x.put_in (suc c) all.0.put_in, ne_eqb x.struck (suc c) all.0.struck) (lacks_not xs c (suc i) all.1)
 
-pub marked_lacks : (u : List ℕ) (to c i : ℕ) (xs : List Cell) → AllByRecursion (Lacks (c + 1)) xs → MarkedAt u u to xs c i 0
+pub marked_lacks : (u : List ℕ) (c i : ℕ) (xs : List Cell) → AllByRecursion (Lacks (c + 1)) xs → MarkedAt u u 0 xs c i 0
 unfolding marks_written
-marked_lacks u to c i xs all =
+marked_lacks u c i xs all =
     let none : marks_of xs c i ≡ [] = lacks_not xs c i (rw add-one at all) in
-    record { words = sym (ap (λ m. written_at u to (marks_written m)) none ∙ written_none u to); count = ap length (sym none) ∙ length_marks xs c i }
+    record { words = sym (ap (λ m. written_at u 0 (marks_written m)) none ∙ written_none u 0); count = ap length (sym none) ∙ length_marks xs c i }
 
 -- one more piece of the text
 pub text_room : (cells p : List ℕ) (s k c : ℕ) → k < s → touched (pieces_from cells p 0 k) c + touched (piece cells p k) c ≤ touched (cells_of cells p s) c
@@ -150,11 +165,11 @@ text_room cells p s k c l =
     omega arith
 
 pub marked_next :
-    (u v w cells p : List ℕ) (to k c first a b : ℕ) → first ≡ before p k → MarkedAt u v to (pieces_from cells p 0 k) c 0 a →
-    MarkedAt v w (to + 5 * a) (piece cells p k) c first b → to + 5 * touched (pieces_from cells p 0 k) c ≤ length u → MarkedAt u w to (pieces_from cells p 0 (k + 1)) c 0 (a + b)
-marked_next u v w cells p to k c first a b is f g h =
+    (u v w cells p : List ℕ) (k c first a b : ℕ) → first ≡ before p k → MarkedAt u v 0 (pieces_from cells p 0 k) c 0 a →
+    MarkedAt v w (5 * a) (piece cells p k) c first b → 5 * touched (pieces_from cells p 0 k) c ≤ length u → MarkedAt u w 0 (pieces_from cells p 0 (k + 1)) c 0 (a + b)
+marked_next u v w cells p k c first a b is f g h =
     let l = length_before cells p k in
     let e : suc k ≡ k + 1 = omega arith in
     let both : strung (piece cells p) 0 k ++ piece cells p k ≡ strung (piece cells p) 0 (k + 1) = sym (strung_more (piece cells p) k) ∙ ap (strung (piece cells p) 0) e in
-    marked_as u w to c 0 (a + b) (strung (piece cells p) 0 k ++ piece cells p k) (pieces_from cells p 0 (k + 1)) both
-    (marked_join u v w to (to + 5 * a) (strung (piece cells p) 0 k) (piece cells p k) c 0 first a b f g refl (omega arith) h)
+    marked_as u w 0 c 0 (a + b) (strung (piece cells p) 0 k ++ piece cells p k) (pieces_from cells p 0 (k + 1)) both
+    (marked_join u v w 0 (5 * a) (strung (piece cells p) 0 k) (piece cells p k) c 0 first a b f g (omega arith) (omega arith) (omega (arith, h)))

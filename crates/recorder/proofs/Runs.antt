@@ -1,5 +1,5 @@
 -- Cells copied: one after the other, and stretch by stretch of the text.
-use Rattle.std.proofs.Common.{◌≡◌, ℕ, zero, suc, ◌+◌, ◌-◌, ◌*◌, ◌/◌, ◌<◌, ◌≤◌, min, Bool, eqb, List, [], ◌∷◌, ◌++◌, length, get_or, take, drop, set, sym, refl, ap, ◌∙◌, append_assoc, arith, take-add}
+use Rattle.std.proofs.Common.{◌≡◌, ℕ, zero, suc, ◌+◌, ◌-◌, ◌*◌, ◌/◌, ◌<◌, ◌≤◌, min, Bool, eqb, List, [], ◌∷◌, ◌++◌, length, get_or, take, drop, set, sym, refl, ap, ◌∙◌, arith, take-add}
 use Rattle.std.specs.List.{between}
 use Rattle.std.proofs.lemmas.List.{length-append, length-drop, length-take-le, take_at, take-append-le, drop_at, drop-drop, nil_from_length}
 use Rattle.std.proofs.lemmas.List.Edits.{sets-eq}
@@ -7,25 +7,19 @@ use Rattle.model.specs.Paper.{pick, Cell, Change, cells_written, author_of}
 use Rattle.model.specs.Values.{cell_of}
 use Rattle.model.specs.declared.Cell as code
 use Rattle.slots.specs.Cells.{all_cells, cell_at, cells_at}
-use Rattle.slots.proofs.Words.{cell_same, length_cells, take_cells, drop_cells}
+use Rattle.slots.proofs.Words.{cell_same, take_cells, drop_cells}
 use Rattle.pieces.specs.Store.{slot, used, number, piece, strung, cells_of, before, Order, Store, Located}
 use Rattle.pieces.proofs.Texts.{length_piece, length_text, drop_text}
 use Rattle.history.specs.Entry.{staying}
 use Rattle.history.proofs.Logging.{length_cells_written}
-use Rattle.recorder.specs.Records.{Stretched, written_at}
+use Rattle.recorder.specs.Records.{Stretched, written}
 use Rattle.recorder.proofs.Entries.{run_long}
-use Rattle.recorder.proofs.Splices.{between_written, written_more}
+use Rattle.recorder.proofs.Splices.{between_written, written_more, written_at}
 
 -- four words in a row
-pub cell_set : (u : List ℕ) (i : ℕ) (x : code.Cell) → i + 4 ≤ length u →
-    set (set (set (set u i x.letter) (i + 1) x.style) (i + 2) x.put_in) (i + 3) x.struck ≡ written_at u i (cells_written (cell_of x ∷ []))
+pub cell_set : (u : List ℕ) (x : code.Cell) → 4 ≤ length u → set (set (set (set u 0 x.letter) 1 x.style) 2 x.put_in) 3 x.struck ≡ written u (cells_written (cell_of x ∷ []))
 unfolding cells_written
-cell_set u i x h =
-    let e1 : i + 1 ≡ suc i = omega arith in
-    let e2 : i + 2 ≡ suc (suc i) = omega arith in
-    let e3 : i + 3 ≡ suc (suc (suc i)) = omega arith in
-    let vs : List ℕ = x.letter ∷ (x.style ∷ (x.put_in ∷ (x.struck ∷ []))) in
-    rw (e1, e2, e3) (sets-eq vs u i h ∙ append_assoc (take i u) vs (drop (i + 4) u))
+cell_set u x h = sets-eq (x.letter ∷ (x.style ∷ (x.put_in ∷ (x.struck ∷ [])))) u 0 h
 
 cells_written_append : (xs ys : List Cell) → cells_written (xs ++ ys) ≡ cells_written xs ++ cells_written ys
 unfolding cells_written
@@ -115,18 +109,18 @@ stretched_long xs place most ws f h =
 
 -- one more stretch
 pub run_more :
-    (u v w : List ℕ) (cells : List Cell) (to place n done : ℕ) (ws : List ℕ) → Stretched cells (place + done) (n - done) ws → place + n ≤ length cells → to + 4 * n ≤ length u →
-    done < n → v ≡ written_at u to (cells_written (take done (drop place cells))) → w ≡ written_at v (to + 4 * done) ws →
-    w ≡ written_at u to (cells_written (take (done + length ws / 4) (drop place cells)))
-run_more u v w cells to place n done ws f h room less is-v is_w =
+    (u v w : List ℕ) (cells : List Cell) (place n done : ℕ) (ws : List ℕ) → Stretched cells (place + done) (n - done) ws → place + n ≤ length cells → 4 * n ≤ length u →
+    done < n → v ≡ written_at u 0 (cells_written (take done (drop place cells))) → w ≡ written_at v (4 * done) ws →
+    w ≡ written_at u 0 (cells_written (take (done + length ws / 4) (drop place cells)))
+run_more u v w cells place n done ws f h room less is-v is_w =
     let t = drop place cells in
     let k = length ws / 4 in
     let lt = length-drop place cells in
     let l = length-take-le done t (omega arith) in
     let d : drop done t ≡ drop (place + done) cells = drop-drop done place cells in
     let both : take done t ++ take k (drop (place + done) cells) ≡ take (done + k) t = ap (λ xs. take done t ++ take k xs) (sym d) ∙ sym (take-add done k t) in
-    let new : w ≡ written_at v (to + 4 * done) (cells_written (take k (drop (place + done) cells))) = is_w ∙ ap (written_at v (to + 4 * done)) f.words in
-    cells_join u v w to (to + 4 * done) (take done t) (take k (drop (place + done) cells)) is-v new (omega arith) (omega arith) ∙ ap (λ xs. written_at u to (cells_written xs)) both
+    let new : w ≡ written_at v (4 * done) (cells_written (take k (drop (place + done) cells))) = is_w ∙ ap (written_at v (4 * done)) f.words in
+    cells_join u v w 0 (4 * done) (take done t) (take k (drop (place + done) cells)) is-v new (omega arith) (omega arith) ∙ ap (λ xs. written_at u 0 (cells_written xs)) both
 
 -- how many of the cells with words `ws` stay: so many so far, and those of the cells with words `rest` are to be counted
 abbrev pub Counting : List ℕ → List ℕ → List Change → ℕ → ℕ → Type 0

@@ -13,8 +13,8 @@ use Rattle.history.specs.declared.entry.Head.{Head}
 use Rattle.history.proofs.Logging.{entry_long}
 use Rattle.history.proofs.Keeping.{from_on, written_keeps, written_keeps_room}
 use Rattle.history.proofs.Heads.{entry_written}
-use Rattle.recorder.specs.Records.{Records, Ready, Seals, written_at}
-use Rattle.recorder.proofs.Splices.{length_written, take_written, between_written, drop_written}
+use Rattle.recorder.specs.Records.{Records, Ready, Seals}
+use Rattle.recorder.proofs.Splices.{length_written, take_written, between_written, drop_written, written_at}
 
 -- the head's numbers
 head_size : (e : Entry) → (head_of e).size ≡ entry_size e

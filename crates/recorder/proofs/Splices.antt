@@ -1,9 +1,13 @@
 -- Words written over others: what they leave, and one run of them after another.
-use Rattle.std.proofs.Common.{◌≡◌, ℕ, suc, ◌+◌, ◌-◌, ◌<◌, ◌≤◌, List, [], ◌∷◌, ◌++◌, length, get_or, take, drop, set, sym, ap, ◌∙◌, arith}
+use Rattle.std.proofs.Common.{◌≡◌, ℕ, suc, ◌+◌, ◌-◌, ◌<◌, ◌≤◌, List, [], ◌∷◌, ◌++◌, length, get_or, take, drop, set, sym, ap, ◌∙◌, append-nil, zero-add, arith}
 use Rattle.std.specs.List.{between}
-use Rattle.std.proofs.lemmas.List.{append_assoc, length-append, length-take-le, length-drop, take-append-drop, take_at, take_more, drop_at, drop-drop, set_split}
-use Rattle.recorder.specs.Records.{written_at}
+use Rattle.std.proofs.lemmas.List.{append_assoc, length-append, length-take-le, length-drop, take-append-drop, take_all, take_at, take_more, drop_at, drop-drop, set_split, nil_from_length}
+use Rattle.recorder.specs.Records.{written}
 use borrow.Rule.Slice.PartMut.{put_mid}
+
+-- the words ws written from place a on
+abbrev pub written_at : List ℕ → ℕ → List ℕ → List ℕ
+written_at u a ws = take a u ++ (ws ++ drop (a + length ws) u)
 
 module _ (u : List ℕ) (a : ℕ) (ws : List ℕ) (fits : a + length ws ≤ length u) where
   front : length (take a u) ≡ a
@@ -54,6 +58,16 @@ pub put_at : (u ws new : List ℕ) (a k : ℕ) → new ≡ ws → k ≡ length w
 put_at u ws new a k e f =
     ap (λ xs. take a u ++ (xs ++ drop k (drop a u))) e ∙ ap (λ xs. take a u ++ (ws ++ xs)) (drop-drop k a u) ∙ ap (λ n. take a u ++ (ws ++ drop (a + n) u)) f
 
+-- from the front, and in the words from place a on
+pub written_front : (u ws : List ℕ) → written_at u 0 ws ≡ written u ws
+written_front u ws = ap (λ n. ws ++ drop n u) (zero-add (length ws))
+
+pub written_from : (u ws new : List ℕ) (a k : ℕ) → k ≡ length u - a → new ≡ written (take k (drop a u)) ws → put_mid a k u new ≡ written_at u a ws
+written_from u ws new a k e is =
+    let all : take k (drop a u) ≡ drop a u = take_all k (drop a u) (omega (arith, length-drop a u)) in
+    let none : drop k (drop a u) ≡ [] = nil_from_length (drop k (drop a u)) (omega (arith, length-drop k (drop a u), length-drop a u)) in
+    ap (λ xs. take a u ++ (new ++ xs)) none ∙ ap (λ xs. take a u ++ xs) (append-nil new ∙ is ∙ ap (λ xs. ws ++ drop (length ws) xs) all ∙ ap (λ xs. ws ++ xs) (drop-drop (length ws) a u))
+
 pub written_none : (u : List ℕ) (a : ℕ) → written_at u a [] ≡ u
 written_none u a =
     let z : a + 0 ≡ a = omega arith in
@@ -66,10 +80,10 @@ written_one u a x h =
 
 -- one more letter
 pub letter_more :
-    (u v : List ℕ) (a i : ℕ) (ls : List ℕ) (l : ℕ) → i < length ls → a + length ls ≤ length u → l ≡ get_or ls i 0 → v ≡ written_at u a (take i ls) →
-    set v (a + i) l ≡ written_at u a (take (i + 1) ls)
-letter_more u v a i ls l less fits is is-v =
+    (u v : List ℕ) (i : ℕ) (ls : List ℕ) (l : ℕ) → i < length ls → length ls ≤ length u → l ≡ get_or ls i 0 → v ≡ written_at u 0 (take i ls) →
+    set v i l ≡ written_at u 0 (take (i + 1) ls)
+letter_more u v i ls l less fits is is-v =
     let n = length-take-le i ls (omega arith) in
-    let long : length v ≡ length u = ap length is-v ∙ length_written u a (take i ls) (omega arith) in
-    written_one v (a + i) l (omega arith) ∙ ap (λ x. written_at x (a + i) (l ∷ [])) is-v ∙ written_more u a (take i ls) (omega arith) (l ∷ []) (a + i) (omega arith)
-    ∙ ap (λ x. written_at u a (take i ls ++ (x ∷ []))) is ∙ ap (written_at u a) (sym (take_more ls i 0 less))
+    let long : length v ≡ length u = ap length is-v ∙ length_written u 0 (take i ls) (omega arith) in
+    written_one v i l (omega arith) ∙ ap (λ x. written_at x i (l ∷ [])) is-v ∙ written_more u 0 (take i ls) (omega arith) (l ∷ []) i (omega arith)
+    ∙ ap (λ x. written_at u 0 (take i ls ++ (x ∷ []))) is ∙ ap (written_at u 0) (sym (take_more ls i 0 less))

@@ -16,9 +16,9 @@ use Rattle.model.specs.declared.verdict.Verdict.TheVariants.{Accepted, Rejected}
 abbrev pub Records : List ℕ → List ℕ → ℕ → Entry → Type 0
 Records u u' limit e = (back ahead : List Entry) → Log u limit back ahead → Log u' limit (kept limit (e ∷ back)) []
 
--- the words ws written from place a on
-abbrev pub written_at : List ℕ → ℕ → List ℕ → List ℕ
-written_at u a ws = take a u ++ (ws ++ drop (a + length ws) u)
+-- the words ws written over the first of the words u
+abbrev pub written : List ℕ → List ℕ → List ℕ
+written u ws = ws ++ drop (length ws) u
 
 -- there is room at a for an entry with this head, and its words fit there
 pub record Ready (w : List ℕ) (a : ℕ) (h : Head) : Type 0 where
@@ -40,9 +40,9 @@ pub record Stretched (xs : List Cell) (place most : ℕ) (ws : List ℕ) : Type 
   pub few : length ws ≤ 4 * most
   pub words : ws ≡ cells_written (take (length ws / 4) (drop place xs))
 
--- the marks of the cells xs, of which the first has place i, are written from word `to` on; they are n
-pub record MarkedAt (u new : List ℕ) (to : ℕ) (xs : List Cell) (change i n : ℕ) : Type 0 where
-  pub words : new ≡ written_at u to (marks_written (marks_of xs change i))
+-- the marks of the cells xs, of which the first has place i, are written; they are n
+pub record Marked (u new : List ℕ) (xs : List Cell) (change i n : ℕ) : Type 0 where
+  pub words : new ≡ written u (marks_written (marks_of xs change i))
   pub count : n ≡ touched xs change
 
 -- what was decided, as a call

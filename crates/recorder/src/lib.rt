@@ -11,23 +11,16 @@ ghost use Rattle.model.specs.Paper.{Cell as PaperCell, Change, cells_written, to
 ghost use Rattle.model.specs.Values.{cell_of};
 ghost use Rattle.pieces.specs.Store.{piece};
 ghost use Rattle.pieces.specs.Text.{cells_in};
-ghost use Rattle.recorder.specs.Records.{MarkedAt, Ready, Records, Seals, Stretched, decided, written_at};
+ghost use Rattle.recorder.specs.Records.{Marked, Ready, Records, Seals, Stretched, decided, written};
 ghost use Rattle.slots.specs.Cells.{all_cells};
 
 use changes::Row;
-use history::entry::{self, Head, Kind};
+use history::entry::{self, CELL, HEAD, Head, Kind, MARK};
 use history::log;
 use model::{Cell, Verdict};
 use pieces::Text;
 
-// How many words a cell has, and a mark: its place before the cell.
-const CELL: usize = 4;
-
-const MARK: usize = 5;
-
-// Words are written at a place beside them throughout: the log tells the place of an entry, and what follows is counted on from there.
-
-// Writes the head and the size of an entry at `at`, around its letters, cells or marks. It becomes the latest of what can be undone.
+// Writes the head and the size of an entry at `at`, as the log tells the place, around its letters, cells or marks. It becomes the latest of what can be undone.
 fn seal(u: &mut [u32], at: usize, head: Head)
     requires { Ready u.old at head }
     ensures seals { Seals u.old u.new at head }
@@ -38,13 +31,13 @@ fn seal(u: &mut [u32], at: usize, head: Head)
     log::push(u, head.size, head.count);
 }
 
-// Writes the letters from word `to` on.
-fn copy_letters(u: &mut [u32], to: usize, letters: &[u8])
-    requires { to + length letters.now ≤ length u.old }
-    ensures { u.new ≡ written_at u.old to letters.now }
+// Writes the letters.
+fn copy_letters(words: &mut [u32], letters: &[u8])
+    requires { length letters.now ≤ length words.old }
+    ensures { words.new ≡ written words.old letters.now }
 {
     for (i, letter) in letters.iter().enumerate() {
-        u[to + i] = u32::from(*letter);
+        words[i] = u32::from(*letter);
     }
 }
 
@@ -59,7 +52,7 @@ pub fn put(u: &mut [u32], limit: u32, author: u32, place: u32, style: u32, lette
     let Some(at) = log::make_room(u, limit, 1 + n) else {
         return;
     };
-    copy_letters(u, at + entry::HEAD, letters);
+    copy_letters(&mut u[at + HEAD..], letters);
     let head = Head {
         size: 8 + n,
         count: 1 + n,
@@ -72,15 +65,15 @@ pub fn put(u: &mut [u32], limit: u32, author: u32, place: u32, style: u32, lette
     seal(u, at, head);
 }
 
-// Writes a cell at word `to`. By hand, as `slots::write` says what its cell reads as, and this says which words stand where.
-fn write_cell(u: &mut [u32], to: usize, cell: Cell)
-    requires { to + 4 ≤ length u.old }
-    ensures { u.new ≡ written_at u.old to (cells_written (cell_of cell ∷ [])) }
+// Writes a cell. By hand, as `slots::write` says what its cell reads as, and this says which words stand where.
+fn write_cell(words: &mut [u32], cell: Cell)
+    requires { 4 ≤ length words.old }
+    ensures { words.new ≡ written words.old (cells_written (cell_of cell ∷ [])) }
 {
-    u[to] = cell.letter;
-    u[to + 1] = cell.style;
-    u[to + 2] = cell.put_in;
-    u[to + 3] = cell.struck;
+    words[0] = cell.letter;
+    words[1] = cell.style;
+    words[2] = cell.put_in;
+    words[3] = cell.struck;
 }
 
 // The words of the cells of the text from `place` on that stand in one piece, at most `most` of them.
@@ -95,19 +88,19 @@ fn stretch_at<'a>(text: &Text<'a>, place: usize, most: usize) -> &'a [u32]
     slots::part(text.cells, from, most.min(has))
 }
 
-// Writes the `n` cells of the text from `place` on from word `to` on.
-fn copy_text(u: &mut [u32], to: usize, text: &Text, place: usize, n: usize)
+// Writes the `n` cells of the text from `place` on.
+fn copy_text(words: &mut [u32], text: &Text, place: usize, n: usize)
     requires within { place + n ≤ length (cells_in text.now) }
-    requires target { to + 4 * n ≤ length u.old }
-    ensures { u.new ≡ written_at u.old to (cells_written (take n (drop place (cells_in text.now)))) }
+    requires target { 4 * n ≤ length words.old }
+    ensures { words.new ≡ written words.old (cells_written (take n (drop place (cells_in text.now)))) }
 {
     let mut done = 0;
     // By hand, as only a piece knows how many of the cells stand in it.
     while done < n {
-        let words = stretch_at(text, place + done, n - done);
-        let from = to + CELL * done;
-        u[from..from + words.len()].copy_from_slice(words);
-        done += words.len() / CELL;
+        let part = stretch_at(text, place + done, n - done);
+        let from = CELL * done;
+        words[from..from + part.len()].copy_from_slice(part);
+        done += part.len() / CELL;
     }
 }
 
@@ -135,8 +128,8 @@ pub fn strike(u: &mut [u32], limit: u32, text: &Text, row: &Row, author: u32, pl
     let Some(at) = log::make_room(u, limit, 1 + n) else {
         return;
     };
-    let to = at + entry::HEAD;
-    copy_text(u, to, text, place as usize, n as usize);
+    let to = at + HEAD;
+    copy_text(&mut u[to..], text, place as usize, n as usize);
     let standing = staying(&u[to..to + CELL * n as usize], author, row);
     let head = Head {
         size: 8 + 4 * n,
@@ -160,7 +153,7 @@ pub fn style(u: &mut [u32], limit: u32, text: &Text, place: u32, n: u32, style: 
     let Some(at) = log::make_room(u, limit, 1 + n) else {
         return;
     };
-    copy_text(u, at + entry::HEAD, text, place as usize, n as usize);
+    copy_text(&mut u[at + HEAD..], text, place as usize, n as usize);
     let head = Head {
         size: 8 + 4 * n,
         count: 1 + n,
@@ -173,61 +166,61 @@ pub fn style(u: &mut [u32], limit: u32, text: &Text, place: u32, n: u32, style: 
     seal(u, at, head);
 }
 
-// Writes a cell that has the mark of the change with its place, from word `to` on. Returns how many are written, one or none.
-fn mark_cell(u: &mut [u32], to: usize, cell: Cell, change: u32, place: usize) -> usize
+// Writes a cell that has the mark of the change with its place. Returns how many are written, one or none.
+fn mark_cell(words: &mut [u32], cell: Cell, change: u32, place: usize) -> usize
     requires low { place < 4294967296 }
-    requires target { to + 5 * touches (cell_of cell ∷ []) change ≤ length u.old }
-    ensures { MarkedAt u.old u.new to (cell_of cell ∷ []) change place result }
+    requires target { 5 * touches (cell_of cell ∷ []) change ≤ length words.old }
+    ensures { Marked words.old words.new (cell_of cell ∷ []) change place result }
 {
     if !sweep::is_touched(cell, change) {
         return 0;
     }
-    u[to] = place as u32;
-    write_cell(u, to + 1, cell);
+    words[0] = place as u32;
+    write_cell(&mut words[1..], cell);
     1
 }
 
 // Writes those of the cells with these words that have the mark, each with its place, the first cell's being `first`. Returns how many.
-fn mark_cells(u: &mut [u32], to: usize, cells: &[u32], change: u32, first: usize) -> usize
+fn mark_cells(words: &mut [u32], cells: &[u32], change: u32, first: usize) -> usize
     requires low { first + length cells.now / 4 ≤ 4294967296 }
-    requires target { to + 5 * touches (all_cells cells.now) change ≤ length u.old }
-    ensures { MarkedAt u.old u.new to (all_cells cells.now) change first result }
+    requires target { 5 * touches (all_cells cells.now) change ≤ length words.old }
+    ensures { Marked words.old words.new (all_cells cells.now) change first result }
 {
     let mut found = 0;
     // An index, as the place of each cell is counted on from the first.
     for i in 0..cells.len() / CELL {
         let cell = slots::read(cells, i);
-        found += mark_cell(u, to + MARK * found, cell, change, first + i);
+        found += mark_cell(&mut words[MARK * found..], cell, change, first + i);
     }
     found
 }
 
 // The same of piece `k`, whose first cell has the place `first` in the text.
-fn mark_piece(u: &mut [u32], to: usize, text: &Text, k: usize, change: u32, first: usize) -> usize
+fn mark_piece(words: &mut [u32], text: &Text, k: usize, change: u32, first: usize) -> usize
     requires mark { change < 4294967295 }
     requires here { k < text.now.slots }
     requires low { first ≤ 1024 * k }
-    requires target { to + 5 * touches (piece text.now.cells.now text.now.tables.now k) change ≤ length u.old }
-    ensures { MarkedAt u.old u.new to (piece text.now.cells.now text.now.tables.now k) change first result }
+    requires target { 5 * touches (piece text.now.cells.now text.now.tables.now k) change ≤ length words.old }
+    ensures { Marked words.old words.new (piece text.now.cells.now text.now.tables.now k) change first result }
 {
     if !text.may_have(k, change + 1) {
         return 0;
     }
     let cells = slots::part(text.cells, text.number_of(k, 0), text.used(k));
-    mark_cells(u, to, cells, change, first)
+    mark_cells(words, cells, change, first)
 }
 
 // Writes all cells of the text that have the mark, each with its place.
-fn mark_text(u: &mut [u32], to: usize, text: &Text, change: u32)
+fn mark_text(words: &mut [u32], text: &Text, change: u32)
     requires mark { change < 4294967295 }
-    requires target { to + 5 * touches (cells_in text.now) change ≤ length u.old }
-    ensures { u.new ≡ written_at u.old to (marks_written (marks_of (cells_in text.now) change 0)) }
+    requires target { 5 * touches (cells_in text.now) change ≤ length words.old }
+    ensures { words.new ≡ written words.old (marks_written (marks_of (cells_in text.now) change 0)) }
 {
     let mut found = 0;
     let mut first = 0;
     // An index, as the order of the slots is lent memory.
     for k in 0..text.slots {
-        found += mark_piece(u, to + MARK * found, text, k, change, first);
+        found += mark_piece(&mut words[MARK * found..], text, k, change, first);
         first += text.used(k);
     }
 }
@@ -243,7 +236,7 @@ pub fn decision(u: &mut [u32], limit: u32, text: &Text, change: u32, verdict: Ve
     let Some(at) = log::make_room(u, limit, 1 + count) else {
         return;
     };
-    mark_text(u, at + entry::HEAD, text, change);
+    mark_text(&mut u[at + HEAD..], text, change);
     let head = Head {
         size: 8 + 5 * count,
         count: 1 + count,

@@ -4,7 +4,7 @@ use Rattle.std.proofs.lemmas.Bool.{cases_lt}
 use Rattle.std.proofs.lemmas.List.{length-append, length-take-le, length-drop, take_at, drop_at, append_assoc, get_or-drop, drop-drop, nil_from_length}
 use Rattle.model.specs.Paper.{Cell}
 use Rattle.slots.specs.Cells.{all_cells, cell_at, cells_at}
-use Rattle.slots.proofs.Words.{all_part, cells_split, length_cells}
+use Rattle.slots.proofs.Words.{all_part, cells_split}
 use Rattle.history.specs.Entry.{run_back}
 use Rattle.history.specs.Words.{cells_read}
 

@@ -9,14 +9,9 @@ ghost use Rattle.pieces.specs.Text.{Rewrites, cells_of_mut};
 ghost use Rattle.history.specs.Entry.{run_back, mark_back, marks_back};
 ghost use Rattle.restore.specs.Back.{goes, first_mark, marks_in, taken_back, CanMark, CanTakeBack, Undoable, Undone};
 
-use history::entry::{self, Head, Kind};
+use history::entry::{self, CELL, HEAD, Head, Kind, MARK};
 use model::{Cell, Verdict};
 use pieces::TextMut;
-
-// How many words a cell has, and a mark: its place before the cell.
-const CELL: usize = 4;
-
-const MARK: usize = 5;
 
 // How many words of cells the text takes at once.
 const MOST: usize = 4096;
@@ -107,5 +102,5 @@ pub fn undo(text: &mut TextMut, u: &[u32], at: usize)
     ensures { Undone u.now at text.old text.new }
 {
     let head = entry::read_head(u, at);
-    take_back(text, head, &u[at + entry::HEAD..]);
+    take_back(text, head, &u[at + HEAD..]);
 }

@@ -2,11 +2,11 @@
 use Rattle.std.proofs.Common.{◌≡◌, ◌-◌, ◌≤◌, take, drop}
 use Rattle.model.specs.Paper.{cells_written}
 use Rattle.pieces.specs.Text.{cells_in}
-use Rattle.recorder.specs.Records.{written_at}
+use Rattle.recorder.proofs.Splices.{written_at}
 use Rattle.recorder.proofs.copy_text.Given as goal
 
 abbrev pub invariant-loop-done : goal.invariant-loop-done
-invariant-loop-done l = (l.u ≡ written_at l.initial.u l.to (cells_written (take l.done (drop l.place (cells_in l.text))))) × (l.done ≤ l.n)
+invariant-loop-done l = (l.words ≡ written_at l.initial.words 0 (cells_written (take l.done (drop l.place (cells_in l.text))))) × (l.done ≤ l.n)
 
 abbrev pub decreases-loop-done : goal.decreases-loop-done
 decreases-loop-done l = l.n - l.done

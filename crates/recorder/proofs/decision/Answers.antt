@@ -1,5 +1,5 @@
 -- Room, the marks, and the head around them.
-use Rattle.std.proofs.Common.{◌+◌, [], arith}
+use Rattle.std.proofs.Common.{◌+◌, [], ◌-◌, length, refl, arith}
 use Rattle.model.specs.Paper.{Paper}
 use Rattle.pieces.specs.Text.{cells_in}
 use Rattle.history.specs.Entry.{entry_of}
@@ -7,6 +7,7 @@ use Rattle.recorder.specs.Records.{decided}
 use Rattle.recorder.proofs.Entries.{decided_words, decided_counts, decided_head}
 use Rattle.recorder.proofs.Marking.{touched_few}
 use Rattle.recorder.proofs.Runs.{text_small}
+use Rattle.recorder.proofs.Splices.{written_from}
 use Rattle.recorder.proofs.Sealing.{too_much, roomed_inside, ready, recorded, rest_recorded}
 use Rattle.recorder.proofs.decision.Goals as goal
 
@@ -33,23 +34,23 @@ mark_text-requires c =
 pub seal-requires : goal.seal-requires
 seal-requires c =
     let p : Paper = record { cells = cells_in c.args.text.now; changes = [] } in
-    ready c.args.u.now c.make_room.new.u c.mark_text.new.u c.args.limit c.in-Some.at _ (entry_of p (decided c.args.verdict c.args.change)) _
+    ready c.args.u.now c.make_room.new.u _ c.args.limit c.in-Some.at _ (entry_of p (decided c.args.verdict c.args.change)) _
     c.requires.log c.in-Some.ensures.room (decided_head p c.args.change c.args.verdict c.args.count c.from.result c.requires.count c.from.ensures)
-    (decided_words p c.args.change c.args.verdict) c.mark_text.ensures
+    (decided_words p c.args.change c.args.verdict) (written_from c.make_room.new.u _ c.mark_text.new.words (c.in-Some.at + 7) (length c.make_room.new.u - (c.in-Some.at + 7)) refl c.mark_text.ensures)
 
 pub returns : goal.returns
 returns c =
     record {
       records = λ cs.
           let p : Paper = record { cells = cells_in c.args.text.now; changes = cs } in
-          recorded c.args.u.now c.make_room.new.u c.mark_text.new.u c.args.limit c.in-Some.at _ (entry_of p (decided c.args.verdict c.args.change)) _
+          recorded c.args.u.now c.make_room.new.u _ c.args.limit c.in-Some.at _ (entry_of p (decided c.args.verdict c.args.change)) _
           c.requires.log c.in-Some.ensures.room (decided_head p c.args.change c.args.verdict c.args.count c.from.result c.requires.count c.from.ensures)
-          (decided_words p c.args.change c.args.verdict) c.mark_text.ensures
+          (decided_words p c.args.change c.args.verdict) (written_from c.make_room.new.u _ c.mark_text.new.words (c.in-Some.at + 7) (length c.make_room.new.u - (c.in-Some.at + 7)) refl c.mark_text.ensures)
           c.seal.new.u c.seal.ensures.seals;
       rest =
           let p : Paper = record { cells = cells_in c.args.text.now; changes = [] } in
-          rest_recorded c.args.u.now c.make_room.new.u c.mark_text.new.u c.args.limit c.in-Some.at _ (entry_of p (decided c.args.verdict c.args.change)) _
+          rest_recorded c.args.u.now c.make_room.new.u _ c.args.limit c.in-Some.at _ (entry_of p (decided c.args.verdict c.args.change)) _
           c.requires.log c.in-Some.ensures.room (decided_head p c.args.change c.args.verdict c.args.count c.from.result c.requires.count c.from.ensures)
-          (decided_words p c.args.change c.args.verdict) c.mark_text.ensures
+          (decided_words p c.args.change c.args.verdict) (written_from c.make_room.new.u _ c.mark_text.new.words (c.in-Some.at + 7) (length c.make_room.new.u - (c.in-Some.at + 7)) refl c.mark_text.ensures)
           c.seal.new.u c.make_room.ensures.rest c.seal.ensures.rest;
     }

@@ -3,13 +3,14 @@ use Rattle.std.proofs.Common.{◌∙◌, ap, arith}
 use Rattle.model.specs.Paper.{touched}
 use Rattle.slots.specs.Cells.{all_cells}
 use Rattle.pieces.specs.Store.{piece}
-use Rattle.recorder.proofs.Marking.{piece_is, marked_lacks, marked_as}
+use Rattle.recorder.proofs.Marking.{piece_is, marked_front, marked_lacks, marked_same}
 use Rattle.recorder.proofs.mark_piece.Goals as goal
 
 pub returns-then-not-may_have : goal.returns-then-not-may_have
 returns-then-not-may_have c =
     let t = c.args.text.now in
-    marked_lacks c.args.u.now c.args.to c.args.change c.args.first (piece t.cells.now t.tables.now c.args.k) (c.may_have.ensures.lacks c.if-not-may_have.true)
+    marked_front c.args.words.now c.args.words.now (piece t.cells.now t.tables.now c.args.k) c.args.change c.args.first 0
+    (marked_lacks c.args.words.now c.args.change c.args.first (piece t.cells.now t.tables.now c.args.k) (c.may_have.ensures.lacks c.if-not-may_have.true))
 
 pub part-cells-requires : goal.part-cells-requires
 part-cells-requires c =
@@ -34,5 +35,5 @@ mark_cells-requires c =
 pub returns : goal.returns
 returns c =
     let t = c.args.text.now in
-    marked_as c.args.u.now c.mark_cells.new.u c.args.to c.args.change c.args.first c.mark_cells.result (all_cells c.part-cells.result.now) (piece t.cells.now t.tables.now c.args.k)
+    marked_same c.args.words.now c.mark_cells.new.words c.args.change c.args.first c.mark_cells.result (all_cells c.part-cells.result.now) (piece t.cells.now t.tables.now c.args.k)
     (c.part-cells.ensures.cells ∙ piece_is t.cells.now t.tables.now c.args.k c.number_of.result c.used.result c.number_of.ensures c.used.ensures) c.mark_cells.ensures

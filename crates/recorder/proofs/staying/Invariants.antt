@@ -1,5 +1,5 @@
 -- Those so far, and those that are to be counted.
-use Rattle.std.proofs.Common.{◌≡◌, ◌+◌, ◌*◌, ◌≤◌, length}
+use Rattle.std.proofs.Common.{◌≡◌, ◌+◌, ◌≤◌, length}
 use Rattle.std.specs.Slice.Iter.{chunks_exact_rest, chunks_exact_size}
 use Rattle.changes.specs.Rows.{changes_in}
 use Rattle.recorder.proofs.Runs.{Counting}

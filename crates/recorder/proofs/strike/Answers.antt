@@ -1,12 +1,11 @@
 -- Room, the cells as they are, how many stay, and the head around them.
-use Rattle.std.proofs.Common.{◌≡◌, ◌+◌, take, drop, arith}
-use Rattle.std.proofs.lemmas.List.{take_rest, length-drop}
+use Rattle.std.proofs.Common.{◌+◌, take, drop, ◌-◌, length, refl, arith}
 use Rattle.model.specs.Paper.{Paper, cells_written}
 use Rattle.model.specs.Calls.{strikes}
 use Rattle.changes.specs.Rows.{changes_in}
 use Rattle.pieces.specs.Text.{cells_in}
 use Rattle.history.specs.Entry.{entry_of}
-use Rattle.recorder.specs.Records.{written_at}
+use Rattle.recorder.proofs.Splices.{written_from}
 use Rattle.recorder.proofs.Entries.{struck_words, struck_counts, struck_head}
 use Rattle.recorder.proofs.Runs.{text_small, copied_stay}
 use Rattle.recorder.proofs.Sealing.{too_much, roomed_inside, ready, recorded, rest_recorded}
@@ -38,12 +37,12 @@ seal-requires c =
     let room = c.in-Some.ensures.room in
     let free = c.make_room.new.u in
     let r = roomed_inside c.args.u.now free c.args.limit (1 + c.args.n) c.in-Some.at c.requires.log room in
-    let copied : c.copy_text.new.u ≡ written_at free (c.in-Some.at + 7) (cells_written (take c.args.n (drop c.args.place cells))) = c.copy_text.ensures in
-    let stay = copied_stay free c.copy_text.new.u (c.in-Some.at + 7) c.args.place c.args.n cells p.changes c.args.author c.staying-standing.result
+    let copied = written_from free (cells_written (take c.args.n (drop c.args.place cells))) c.copy_text.new.words (c.in-Some.at + 7) (length free - (c.in-Some.at + 7)) refl c.copy_text.ensures in
+    let stay = copied_stay free _ (c.in-Some.at + 7) c.args.place c.args.n cells p.changes c.args.author c.staying-standing.result
     c.requires.within (omega (arith, r.0)) copied c.staying-standing.ensures in
     let is = struck_head p c.args.place c.args.n c.requires.within c.args.author c.staying-standing.result stay in
     let words = struck_words p c.args.place c.args.n c.args.author in
-    ready c.args.u.now free c.copy_text.new.u c.args.limit c.in-Some.at _ e _ c.requires.log room is words copied
+    ready c.args.u.now free _ c.args.limit c.in-Some.at _ e _ c.requires.log room is words copied
 
 pub returns : goal.returns
 returns c =
@@ -53,12 +52,12 @@ returns c =
     let room = c.in-Some.ensures.room in
     let free = c.make_room.new.u in
     let r = roomed_inside c.args.u.now free c.args.limit (1 + c.args.n) c.in-Some.at c.requires.log room in
-    let copied : c.copy_text.new.u ≡ written_at free (c.in-Some.at + 7) (cells_written (take c.args.n (drop c.args.place cells))) = c.copy_text.ensures in
-    let stay = copied_stay free c.copy_text.new.u (c.in-Some.at + 7) c.args.place c.args.n cells p.changes c.args.author c.staying-standing.result
+    let copied = written_from free (cells_written (take c.args.n (drop c.args.place cells))) c.copy_text.new.words (c.in-Some.at + 7) (length free - (c.in-Some.at + 7)) refl c.copy_text.ensures in
+    let stay = copied_stay free _ (c.in-Some.at + 7) c.args.place c.args.n cells p.changes c.args.author c.staying-standing.result
     c.requires.within (omega (arith, r.0)) copied c.staying-standing.ensures in
     let is = struck_head p c.args.place c.args.n c.requires.within c.args.author c.staying-standing.result stay in
     let words = struck_words p c.args.place c.args.n c.args.author in
     record {
-      records = recorded c.args.u.now free c.copy_text.new.u c.args.limit c.in-Some.at _ e _ c.requires.log room is words copied c.seal.new.u c.seal.ensures.seals;
-      rest = rest_recorded c.args.u.now free c.copy_text.new.u c.args.limit c.in-Some.at _ e _ c.requires.log room is words copied c.seal.new.u c.make_room.ensures.rest c.seal.ensures.rest;
+      records = recorded c.args.u.now free _ c.args.limit c.in-Some.at _ e _ c.requires.log room is words copied c.seal.new.u c.seal.ensures.seals;
+      rest = rest_recorded c.args.u.now free _ c.args.limit c.in-Some.at _ e _ c.requires.log room is words copied c.seal.new.u c.make_room.ensures.rest c.seal.ensures.rest;
     }

@@ -1,11 +1,12 @@
 -- Room, the cells as they are, and the head around them.
-use Rattle.std.proofs.Common.{◌+◌, [], arith}
+use Rattle.std.proofs.Common.{◌+◌, [], ◌-◌, length, refl, arith}
 use Rattle.model.specs.Paper.{Paper}
 use Rattle.model.specs.Calls.{styles}
 use Rattle.pieces.specs.Text.{cells_in}
 use Rattle.history.specs.Entry.{entry_of}
 use Rattle.recorder.proofs.Entries.{styled_words, styled_counts, styled_head}
 use Rattle.recorder.proofs.Runs.{text_small}
+use Rattle.recorder.proofs.Splices.{written_from}
 use Rattle.recorder.proofs.Sealing.{too_much, roomed_inside, ready, recorded, rest_recorded}
 use Rattle.recorder.proofs.style.Goals as goal
 
@@ -30,20 +31,20 @@ copy_text-requires c =
 pub seal-requires : goal.seal-requires
 seal-requires c =
     let p : Paper = record { cells = cells_in c.args.text.now; changes = [] } in
-    ready c.args.u.now c.make_room.new.u c.copy_text.new.u c.args.limit c.in-Some.at _ (entry_of p (styles c.args.place c.args.n c.args.style)) _
-    c.requires.log c.in-Some.ensures.room (styled_head p c.args.place c.args.n c.requires.within c.args.style) (styled_words p c.args.place c.args.n c.args.style) c.copy_text.ensures
+    ready c.args.u.now c.make_room.new.u _ c.args.limit c.in-Some.at _ (entry_of p (styles c.args.place c.args.n c.args.style)) _
+    c.requires.log c.in-Some.ensures.room (styled_head p c.args.place c.args.n c.requires.within c.args.style) (styled_words p c.args.place c.args.n c.args.style) (written_from c.make_room.new.u _ c.copy_text.new.words (c.in-Some.at + 7) (length c.make_room.new.u - (c.in-Some.at + 7)) refl c.copy_text.ensures)
 
 pub returns : goal.returns
 returns c =
     record {
       records = λ cs.
           let p : Paper = record { cells = cells_in c.args.text.now; changes = cs } in
-          recorded c.args.u.now c.make_room.new.u c.copy_text.new.u c.args.limit c.in-Some.at _ (entry_of p (styles c.args.place c.args.n c.args.style)) _
-          c.requires.log c.in-Some.ensures.room (styled_head p c.args.place c.args.n c.requires.within c.args.style) (styled_words p c.args.place c.args.n c.args.style) c.copy_text.ensures
+          recorded c.args.u.now c.make_room.new.u _ c.args.limit c.in-Some.at _ (entry_of p (styles c.args.place c.args.n c.args.style)) _
+          c.requires.log c.in-Some.ensures.room (styled_head p c.args.place c.args.n c.requires.within c.args.style) (styled_words p c.args.place c.args.n c.args.style) (written_from c.make_room.new.u _ c.copy_text.new.words (c.in-Some.at + 7) (length c.make_room.new.u - (c.in-Some.at + 7)) refl c.copy_text.ensures)
           c.seal.new.u c.seal.ensures.seals;
       rest =
           let p : Paper = record { cells = cells_in c.args.text.now; changes = [] } in
-          rest_recorded c.args.u.now c.make_room.new.u c.copy_text.new.u c.args.limit c.in-Some.at _ (entry_of p (styles c.args.place c.args.n c.args.style)) _
-          c.requires.log c.in-Some.ensures.room (styled_head p c.args.place c.args.n c.requires.within c.args.style) (styled_words p c.args.place c.args.n c.args.style) c.copy_text.ensures
+          rest_recorded c.args.u.now c.make_room.new.u _ c.args.limit c.in-Some.at _ (entry_of p (styles c.args.place c.args.n c.args.style)) _
+          c.requires.log c.in-Some.ensures.room (styled_head p c.args.place c.args.n c.requires.within c.args.style) (styled_words p c.args.place c.args.n c.args.style) (written_from c.make_room.new.u _ c.copy_text.new.words (c.in-Some.at + 7) (length c.make_room.new.u - (c.in-Some.at + 7)) refl c.copy_text.ensures)
           c.seal.new.u c.make_room.ensures.rest c.seal.ensures.rest;
     }

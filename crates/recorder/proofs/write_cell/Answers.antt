@@ -3,4 +3,4 @@ use Rattle.recorder.proofs.Runs.{cell_set}
 use Rattle.recorder.proofs.write_cell.Goals as goal
 
 pub returns : goal.returns
-returns c = cell_set c.args.u.now c.args.to c.args.cell c.requires
+returns c = cell_set c.args.words.now c.args.cell c.requires

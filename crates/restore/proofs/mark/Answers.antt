@@ -1,4 +1,4 @@
-use Rattle.std.proofs.Common.{ℕ, ◌+◌, ◌/◌, ◌≡◌, true, false, length, get_or, take, drop, ◌-◌, refl, ◌∙◌, arith}
+use Rattle.std.proofs.Common.{ℕ, ◌+◌, true, false, get_or, refl, ◌∙◌, arith}
 use Rattle.std.proofs.lemmas.List.{take_rest, length-drop}
 use Rattle.model.specs.Values.{cell_of}
 use Rattle.model.proofs.Picks.{pick_true, pick_false}
