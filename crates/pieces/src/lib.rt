@@ -17,6 +17,7 @@ mod text;
 
 use model::Cell;
 pub use text::{Text, TextMut};
+pub use tree::Spot;
 
 // How many cells a slot takes.
 const CELLS: usize = 1024;
@@ -34,13 +35,6 @@ const LOW: usize = 6144;
 const HIGH: usize = 8192;
 
 const WORDS: usize = 10240;
-
-// A piece, and a place in it.
-#[derive(Clone, Copy)]
-pub struct Spot {
-    pub piece: usize,
-    pub offset: usize,
-}
 
 // How many slots a paper of at most `max_cells` cells gets: more than it needs, so that slots seldom run short.
 pub fn slots_for(max_cells: usize) -> usize
@@ -95,11 +89,7 @@ pub fn locate(p: &[u32], s: usize, place: usize) -> Spot
     requires place { place < before p.now s }
     ensures { Located p.now s place result.piece result.offset }
 {
-    let spot = tree::find(&p[TREE..], place);
-    Spot {
-        piece: spot.leaf,
-        offset: spot.offset,
-    }
+    tree::find(&p[TREE..], place)
 }
 
 // Writes cell `o` of piece `k`.

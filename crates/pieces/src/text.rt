@@ -8,8 +8,8 @@ ghost use Rattle.slots.specs.Cells.{cells_at};
 ghost use Rattle.pieces.specs.Store.{Located, Store, before, no_cell, number, piece, slot, used as uses};
 ghost use Rattle.pieces.specs.Marks.{Lacks, has};
 
-use crate::Spot;
 use model::Cell;
+use tree::Spot;
 
 /// A text that is only read: two lent slices of words, and how many slots there are.
 #[derive(Clone, Copy, Debug)]
