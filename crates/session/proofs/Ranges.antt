@@ -1,7 +1,11 @@
 -- Letters and numbers in range. Assumes nothing.
-use Rattle.std.proofs.Common.{◌≡◌, ℕ, ◌+◌, ◌<◌, ◌≤◌, Bool, true, false, ◌&&◌, ◌||◌, eqb, leb, List, length, get_or, drop, sym, refl, ap, ◌∙◌}
+use Rattle.std.proofs.Common.{rules, ◌≡◌, ℕ, ◌+◌, ◌<◌, ◌≤◌, Bool, true, false, ◌&&◌, ◌||◌, eqb, leb, List, length, get_or, drop, Ok, Err, Result, IsOk, sym, refl, ap, ◌∙◌, arith, ltb-true}
 use Rattle.std.proofs.lemmas.List.{at_drop_more, at_drop_all}
-use Rattle.model.specs.Calls.{call_number, good_call, good_fields, good_letters}
+use Rattle.model.specs.Calls.{call_number, count, good_call, good_fields, good_letters}
+use Rattle.model.specs.Values.{NumbersWay, way_number}
+use Rattle.model.specs.declared.way.UnknownWay.{UnknownWay}
+use Rattle.model.specs.declared.way.Way.{Way}
+use Rattle.model.specs.declared.way.Way.TheVariants.{Everything, Accepted, Rejected}
 use Rattle.codec.specs.Values.{meaning}
 use Rattle.codec.specs.declared.Call.{Call}
 use Rattle.codec.specs.declared.Call.TheVariants.{Put, Strike, Accept, Reject, Style, Undo, Redo, Show, Find, Count, Change, Save}
@@ -56,3 +60,22 @@ not_shown (Find k i) h = refl
 not_shown (Count k) h = refl
 not_shown (Change c) h = refl
 not_shown (Save i n) h = refl
+
+-- a number below 3 is that of a way to look
+pub way_found : {n : ℕ} (r : Result Way UnknownWay) → NumbersWay n r → n < 3 → IsOk r
+way_found (Ok w) h l = search rules
+way_found (Err e) h l = absurd (omega (arith, h.1))
+
+pub way_is : {n : ℕ} {r : Result Way UnknownWay} {w : Way} → r ≡ Ok w → NumbersWay n r → way_number w ≡ n
+way_is e h = rw e at h
+
+-- every way to look can be asked for
+pub way_good : (w : Way) → good_fields (count (way_number w)) ≡ true
+unfolding good_fields
+way_good Everything = refl
+way_good Accepted = refl
+way_good Rejected = refl
+
+pub count_range : (k : ℕ) → good_fields (count k) ≡ true → k < 3
+unfolding good_fields
+count_range k good = ltb-true k 3 good
