@@ -4,12 +4,15 @@ ghost use Rattle.text.specs.declared.fault.Fault.TheVariants.{Memory};
 ghost use Rattle.text.specs.declared.fault.Stop.TheVariants.{At, NoMemory};
 
 use std::alloc::{AllocError, AllocFailed};
+use thiserror::Error;
 
-#[derive(Debug, Drop)]
+#[derive(Debug, Drop, Error)]
 pub enum Fault {
     // The place of the first byte that does not fit.
+    #[error("byte {0} does not fit")]
     Place(usize),
     // There is no memory, or there are more letters than a call can have.
+    #[error("out of memory")]
     Memory,
 }
 
