@@ -7,9 +7,10 @@ use Rattle.model.specs.Paper.{pick}
 use Rattle.model.specs.Calls.{Call, undo}
 use Rattle.text.specs.declared.reader.Mark.{Mark}
 use Rattle.text.specs.declared.reader.Mark.TheVariants.{Letter, Backslash, Quote, Wrong}
-use Rattle.text.specs.Lines.{Step, got, stop, and_then, literal_in, digit, digits_in, number_in, field_in, numbers_in, numbers_line, small, mark_of, letters_in, letter_line, letters_line, tail_in, ended, head_in, shape_of, call_of, call_in, line_of, readable, ceases, reading_from, line_reading, BeginsCall}
+use Rattle.text.specs.Lines.{Step, got, stop, and_then, literal_in, digit, digits_in, number_in, field_in, numbers_in, numbers_line, small, mark_of, letters_in, letter_line, letters_line, tail_in, ended, head_in, shape_of, call_of, call_in, line_of, readable, ceases, limits_in, reading_from, line_reading, BeginsCall}
 use Rattle.text.proofs.Whole.{tried}
 use Rattle.text.proofs.Steps.{after_mark, letters_cons}
+use Rattle.text.proofs.Ends.{IsEnd}
 use Rattle.text.proofs.Only.{both, literal_only, one_more, field_only, numbers_only, slash, letter_only, slash_only, tail_line, tail_only, its_line}
 
 no_stop : {A : Type 0} {a : A} {xs ys : List ℕ} → got a xs ≡ stop ys → ⊥
@@ -237,6 +238,26 @@ module _ (k : ℕ) (lt : k < 12) where
           let m = numbers_only (shape_of k).count [] q.left p.0 p.1 q.second in
           after_numbers xs p.1 rest m.0 (literal_only (shape_of k).word xs q.left q.first ∙ ap (λ us. (shape_of k).word ++ us) m.2) m.3 m.4
           (ending p.0 p.1 (either (tail_in (shape_of k).lettered p.1) (λ ls zs. ended (call_of k p.0 ls) zs) rest p.3))
+
+pub call_end : (k : ℕ) → k < 12 → (xs rest : List ℕ) → call_in k xs ≡ stop rest → IsEnd rest xs
+call_end k lt xs rest h = let p = call_part k lt xs rest h in (p.0, p.2)
+
+pub limits_end : (xs rest : List ℕ) → limits_in xs ≡ stop rest → IsEnd rest xs
+limits_end xs rest h = go (either (head_in (codes "limits") 3 xs) (λ ns ys. ended ns ys) rest h)
+  where
+    in_head : (literal_in (codes "limits") xs ≡ stop rest) ⊎ Later (literal_in (codes "limits") xs) (λ _ ys. numbers_in 3 [] ys) rest → IsEnd rest xs
+    in_head (inl e) = let p = literal_part (codes "limits") xs rest e in (p.0, p.2)
+    in_head (inr p) =
+        let q = numbers_part 3 [] p.1 rest p.3 in
+        (codes "limits" ++ q.0, literal_only (codes "limits") xs p.1 p.2 ∙ (ap (λ us. codes "limits" ++ us) q.2 ∙ sym (append_assoc (codes "limits") q.0 rest)))
+
+    go : (head_in (codes "limits") 3 xs ≡ stop rest) ⊎ Later (head_in (codes "limits") 3 xs) (λ ns ys. ended ns ys) rest → IsEnd rest xs
+    go (inl e) = in_head (either (literal_in (codes "limits") xs) (λ _ ys. numbers_in 3 [] ys) rest e)
+    go (inr p) =
+        let q = both (literal_in (codes "limits") xs) (λ _ ys. numbers_in 3 [] ys) p.0 p.1 p.2 in
+        let m = numbers_only 3 [] q.left p.0 p.1 q.second in
+        let e = ended_rest p.0 p.1 rest p.3 in
+        (codes "limits" ++ numbers_line m.0, literal_only (codes "limits") xs q.left q.first ∙ (ap (λ us. codes "limits" ++ us) (m.2 ∙ ap (λ us. numbers_line m.0 ++ us) e) ∙ sym (append_assoc (codes "limits") (numbers_line m.0) rest)))
 
 -- from what is left of the line to the place
 begins_at : (xs rest : List ℕ) → Part IsCall xs rest → BeginsCall xs (length xs - length rest)

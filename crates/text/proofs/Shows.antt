@@ -1,15 +1,13 @@
 -- The bytes of an answer are shown as the line of that answer.
-use Rattle.std.proofs.Common.{◌≡◌, ℕ, ◌+◌, ◌*◌, ◌/◌, ◌%◌, ◌<◌, ◌≤◌, Bool, true, ◌&&◌, eqb, ltb, List, [], ◌∷◌, ◌++◌, length, drop, Err, codes, decimal, sym, refl, ap, ◌∙◌, arith}
+use Rattle.std.proofs.Common.{◌≡◌, ℕ, ◌+◌, ◌*◌, ◌/◌, ◌%◌, ◌<◌, ◌≤◌, Bool, true, ◌&&◌, eqb, ltb, List, [], ◌∷◌, ◌++◌, length, codes, decimal, sym, refl, ap, ◌∙◌, arith}
 use lib.Dec.{eqb-suc-zero}
-use Rattle.std.proofs.lemmas.List.{append_assoc, append-nil, drop_all, drop_more}
+use Rattle.std.proofs.lemmas.List.{append_assoc, append-nil}
 use Rattle.std.proofs.lemmas.Bool.{lt-ltb, le-ltb, ltb-true, and_parts}
 use Rattle.model.specs.Paper.{pick, Cell}
 use Rattle.model.specs.Calls.{Answer, refused, number, two, lines, numbers}
 use Rattle.codec.specs.Bytes.{word_bytes, words_bytes, cells_bytes, rows_bytes, answer_bytes}
-use Rattle.text.specs.declared.fault.Fault.{Fault}
-use Rattle.text.specs.declared.fault.Fault.TheVariants.{Place, Memory}
-use Rattle.text.specs.Lines.{Step, got, stop, and_then, ended, numbers_line, Spells, Fails, Lacks}
-use Rattle.text.specs.Shown.{word_at, cell_line, row_line, rows_line, answer_line, byte_letters, byte_rows, showable, number_shown, spaced_shown, cell_shown, repeated, counted, row_shown, refusal_shown, pair_shown, table_shown, numbers_shown, form_shown, answer_shown}
+use Rattle.text.specs.Lines.{Step, got, stop, and_then, ended, numbers_line}
+use Rattle.text.specs.Shown.{word_at, cell_line, row_line, rows_line, answer_line, byte_letters, byte_rows, showable, number_shown, spaced_shown, cell_shown, repeated, counted, row_shown, refusal_shown, pair_shown, table_shown, numbers_shown, answer_shown}
 
 -- the number that four bytes write
 word_back : (n : ℕ) → n % 256 + n / 256 % 256 * 256 + n / 65536 % 256 * 65536 + n / 16777216 * 16777216 ≡ n
@@ -128,22 +126,3 @@ module _ (bs : List ℕ) (a : Answer) (ok : showable a ≡ true) (e : bs ≡ ans
   no_stop rest h =
       let k = ap answer_shown e ∙ shows a ok in
       let z : ◌≡◌ {A = ℕ} 0 1 = cc (h, k) in omega arith
-
-  pub only_memory : (f : Fault) → Fails (answer_shown bs) bs f → Lacks f
-  only_memory (Place i) h = no_stop (drop i bs) h.0
-  only_memory Memory h = tt
-
--- the end of the bytes, or what is left over
-module _ (bs line ls : List ℕ) (i : ℕ) (none : line ≡ []) (h : form_shown line bs ≡ got ls (drop i bs)) where
-  at_end : answer_shown bs ≡ ended ls (drop i bs)
-  at_end = ap (λ s. and_then s ended) (ap (λ l. form_shown l bs) (sym none) ∙ h)
-
-  pub shown_whole : length bs ≤ i → answer_shown bs ≡ got ls []
-  shown_whole e = at_end ∙ ap (ended ls) (drop_all i bs e)
-
-  pub shown_over : i < length bs → answer_shown bs ≡ stop (drop i bs)
-  shown_over e = let d = drop_more bs i 0 e in at_end ∙ (ap (ended ls) d ∙ ap (λ ys. stop ys) (sym d))
-
-pub shown_fails : (bs line ls : List ℕ) → line ≡ [] → (f : Fault) → Spells (form_shown line bs) bs ls (Err f) → Fails (answer_shown bs) bs f
-shown_fails bs line ls none (Place i) p = (ap (λ s. and_then s ended) (ap (λ l. form_shown l bs) (sym none) ∙ p.0), p.1)
-shown_fails bs line ls none Memory p = tt

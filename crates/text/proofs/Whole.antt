@@ -1,34 +1,12 @@
 -- A whole line as a call, and the bytes of that call.
-use Rattle.std.proofs.Common.{◌≡◌, ℕ, zero, suc, ◌+◌, ◌-◌, ◌/◌, ◌%◌, ◌^◌, ◌<◌, ◌≤◌, max, Bool, true, false, List, [], ◌∷◌, ◌++◌, length, get_or, take, drop, codes, sym, refl, ap, ◌∙◌, arith, length-drop}
-use Rattle.std.proofs.lemmas.List.{drop_more, drop_all, take_more, take_all, length-take-le, append_assoc, append-nil}
+use Rattle.std.proofs.Common.{◌≡◌, ℕ, zero, suc, ◌+◌, ◌-◌, ◌/◌, ◌%◌, ◌^◌, ◌<◌, ◌≤◌, max, Bool, true, false, List, [], ◌∷◌, ◌++◌, length, get_or, take, drop, sym, refl, ap, ◌∙◌, arith, length-drop}
+use Rattle.std.proofs.lemmas.List.{take_more, take_all, append_assoc, append-nil}
 use Rattle.model.specs.Paper.{pick}
 use Rattle.model.specs.Calls.{Call}
 use Rattle.codec.specs.Bytes.{word_bytes, words_bytes, call_bytes}
-use Rattle.text.specs.Lines.{Step, got, stop, and_then, head_in, tail_in, ended, shape_of, call_of, call_in, Reading, means, ceases, reading_from, limits_reading, Lacks, Fails}
+use Rattle.text.specs.Lines.{Step, got, stop, shape_of, call_of, call_in, Reading, means, ceases, reading_from, limits_in, limits_reading, Lacks, Fails}
 use Rattle.text.specs.declared.fault.Fault.{Fault}
 use Rattle.text.specs.declared.fault.Fault.TheVariants.{Place, Memory}
-
--- what comes after the numbers
-abbrev after_head : ℕ → Bool → List ℕ → List ℕ → Step Call
-after_head k b ns ys = and_then (tail_in b ys) (λ ls zs. ended (call_of k ns ls) zs)
-
-module _ (k : ℕ) (xs w : List ℕ) (n : ℕ) (b : Bool) (ew : w ≡ (shape_of k).word) (en : n ≡ (shape_of k).count) (eb : b ≡ (shape_of k).lettered) (ns ls : List ℕ) (i j : ℕ) (h : head_in w n xs ≡ got (take n ns) (drop i xs)) (t : tail_in b (drop i xs) ≡ got ls (drop j xs)) where
-  to_end : call_in k xs ≡ ended (call_of k (take (shape_of k).count ns) ls) (drop j xs)
-  to_end =
-      ap (λ v. and_then (head_in v (shape_of k).count xs) (after_head k (shape_of k).lettered)) (sym ew)
-      ∙ (ap (λ m. and_then (head_in w m xs) (after_head k (shape_of k).lettered)) (sym en)
-      ∙ (ap (λ s. and_then s (after_head k (shape_of k).lettered)) h
-      ∙ (ap (λ l. after_head k l (take n ns) (drop i xs)) (sym eb)
-      ∙ (ap (λ s. and_then s (λ ls zs. ended (call_of k (take n ns) ls) zs)) t
-      ∙ ap (λ m. ended (call_of k (take m ns) ls) (drop j xs)) en))))
-
-  pub parse_whole : length xs ≤ j → call_in k xs ≡ got (call_of k (take (shape_of k).count ns) ls) []
-  parse_whole e = to_end ∙ ap (ended (call_of k (take (shape_of k).count ns) ls)) (drop_all j xs e)
-
-  pub parse_over : j < length xs → call_in k xs ≡ stop (drop j xs)
-  parse_over e =
-      let d = drop_more xs j 0 e in
-      to_end ∙ (ap (ended (call_of k (take (shape_of k).count ns) ls)) d ∙ ap (λ ys. stop ys) (sym d))
 
 -- a number as four bytes, as the code makes them
 pub word_is : (n : ℕ) → n < 2 ^ 32 → n % 256 ∷ (n / 256 % 256 ∷ (n / 65536 % 256 ∷ (n / 16777216 % 256 ∷ []))) ≡ word_bytes n
@@ -102,14 +80,8 @@ call_of_bytes (suc (suc (suc (suc (suc (suc (suc (suc (suc (suc (suc zero)))))))
 call_of_bytes (suc (suc (suc (suc (suc (suc (suc (suc (suc (suc (suc (suc k)))))))))))) ns ls h e = absurd (omega arith)
 
 -- the bytes that the code writes are those of the call that it read
-pub made : (k : ℕ) (ns ls : List ℕ) (n : ℕ) (b : Bool) (bs : List ℕ) → k < 12 → n ≡ (shape_of k).count → b ≡ (shape_of k).lettered → n ≤ length ns → bs ≡ k ∷ (words_bytes (take (n - 0) ns) ++ pick b (word_bytes (length ls) ++ ls) []) → bs ≡ call_bytes (call_of k (take (shape_of k).count ns) ls)
-made k ns ls n b bs h en eb le e =
-    let z : n - 0 ≡ n = omega arith in
-    let fit : (shape_of k).count ≤ length ns = omega arith in
-    e
-    ∙ (ap (λ m. k ∷ (words_bytes (take m ns) ++ pick b (word_bytes (length ls) ++ ls) [])) (z ∙ en)
-    ∙ (ap (λ l. k ∷ (words_bytes (take (shape_of k).count ns) ++ pick l (word_bytes (length ls) ++ ls) [])) eb
-    ∙ sym (call_of_bytes k (take (shape_of k).count ns) ls h (length-take-le (shape_of k).count ns fit))))
+pub made : (k : ℕ) (ns ls : List ℕ) (b : Bool) (bs : List ℕ) → k < 12 → length ns ≡ (shape_of k).count → b ≡ (shape_of k).lettered → bs ≡ k ∷ (words_bytes ns ++ pick b (word_bytes (length ls) ++ ls) []) → bs ≡ call_bytes (call_of k ns ls)
+made k ns ls b bs h en eb e = e ∙ (ap (λ l. k ∷ (words_bytes ns ++ pick l (word_bytes (length ls) ++ ls) [])) eb ∙ sym (call_of_bytes k ns ls h en))
 
 pub fails_from_lacks : (s : Step Call) (xs : List ℕ) (f : Fault) → Lacks f → Fails s xs f
 fails_from_lacks s xs (Place i) l = absurd l
@@ -143,25 +115,12 @@ abbrev pub placed : List ℕ → Step (List ℕ) → Reading (List ℕ)
 placed xs (got ns rest) = means ns
 placed xs (stop rest) = ceases (length xs - length rest)
 
-module _ (xs : List ℕ) (i : ℕ) where
-  limits_next : (s : Step (List ℕ)) → head_in (codes "limits") 3 xs ≡ s → limits_reading xs ≡ placed xs (and_then s (λ ns ys. ended ns ys))
-  unfolding limits_reading
-  limits_next s e = ap (λ h. placed xs (and_then h (λ ns ys. ended ns ys))) e
+limits_is : (xs : List ℕ) (s : Step (List ℕ)) → limits_in xs ≡ s → limits_reading xs ≡ placed xs s
+unfolding limits_reading
+limits_is xs s e = ap (placed xs) e
 
-  place_of : i ≤ length xs → ◌≡◌ {A = Reading (List ℕ)} (ceases (length xs - length (drop i xs))) (ceases i)
-  place_of le = let at : length xs - length (drop i xs) ≡ i = simp length-drop (omega arith) in ap (λ j. ceases j) at
+pub limits_stop : (xs rest : List ℕ) → limits_in xs ≡ stop rest → limits_reading xs ≡ ceases (length xs - length rest)
+limits_stop xs rest e = limits_is xs (stop rest) e
 
-  pub limits_stop : i ≤ length xs → head_in (codes "limits") 3 xs ≡ stop (drop i xs) → limits_reading xs ≡ ceases i
-  limits_stop le e = limits_next (stop (drop i xs)) e ∙ place_of le
-
-  pub limits_over : (ns : List ℕ) → i < length xs → head_in (codes "limits") 3 xs ≡ got ns (drop i xs) → limits_reading xs ≡ ceases i
-  limits_over ns h e =
-      let d = drop_more xs i 0 h in
-      let le : i ≤ length xs = omega arith in
-      limits_next (got ns (drop i xs)) e
-      ∙ (ap (λ ys. placed xs (ended ns ys)) d ∙ (ap (λ ys. ceases (length xs - length ys)) (sym d) ∙ place_of le))
-
-  pub limits_whole : (ns : List ℕ) → length xs ≤ i → length ns ≡ 4 → head_in (codes "limits") 3 xs ≡ got (take 3 ns) (drop i xs) → limits_reading xs ≡ means (get_or ns 0 0 ∷ (get_or ns 1 0 ∷ (get_or ns 2 0 ∷ [])))
-  limits_whole ns h four e =
-      limits_next (got (take 3 ns) (drop i xs)) e
-      ∙ (ap (λ ys. placed xs (ended (take 3 ns) ys)) (drop_all i xs h) ∙ ap (λ ms. means (take 3 ms)) (spread 4 ns four))
+pub limits_whole : (xs ns : List ℕ) → length ns ≡ 3 → limits_in xs ≡ got ns [] → limits_reading xs ≡ means (get_or ns 0 0 ∷ (get_or ns 1 0 ∷ (get_or ns 2 0 ∷ [])))
+limits_whole xs ns three e = limits_is xs (got ns []) e ∙ ap (λ ms. means ms) (spread 3 ns three)

@@ -1,12 +1,15 @@
 -- Calls as lines of text. A line is a word, a space and a number for each of the call's numbers, and for put and find a space and the
 -- letters between quotes. Here: the line of a call, and the reading of a line, either as a call or to the first byte that does not fit.
 -- Definitions only: nothing is assumed.
-use Rattle.std.specs.Prelude.{◌≡◌, ℕ, zero, suc, ◌+◌, ◌-◌, ◌*◌, ◌<◌, ◌≤◌, max, Bool, true, false, ◌&&◌, List, [], ◌∷◌, ◌++◌, length, take, drop, Ok, Err, codes, decimal, Result, ◌==◌, nat_le, nat_lt, slice_index}
+use Rattle.std.specs.Prelude.{◌≡◌, ℕ, zero, suc, ◌+◌, ◌-◌, ◌*◌, ◌<◌, ◌≤◌, max, Bool, true, false, ◌&&◌, List, [], ◌∷◌, ◌++◌, length, take, drop, Ok, Err, codes, decimal, Result, MatchResult, ◌==◌, nat_le, nat_lt, slice_index}
+use Rattle.std.specs.Borrow.{Bor}
 use Rattle.codec.specs.Bytes.{call_bytes}
 use Rattle.text.specs.declared.fault.Fault.{Fault}
 use Rattle.text.specs.declared.fault.Fault.TheVariants.{Place, Memory}
 use Rattle.text.specs.declared.reader.Mark.{Mark}
 use Rattle.text.specs.declared.reader.Mark.TheVariants.{Letter, Backslash, Quote, Wrong}
+use Rattle.text.specs.declared.fault.Stop.{Stop}
+use Rattle.text.specs.declared.fault.Stop.TheVariants.{At, NoMemory}
 use Rattle.model.specs.Paper.{pick}
 use Rattle.model.specs.Calls.{Call, put, strikes, accepts, rejects, styles, undo, redo, show, find, count, change, save}
 
@@ -239,33 +242,23 @@ Places =
 abbrev pub LimitsBack : Type 0
 LimitsBack = (cells changes undos : ℕ) → cells < 4294967296 → changes < 4294967296 → undos < 4294967296 → limits_reading (limits_line cells changes undos) ≡ means (cells ∷ (changes ∷ (undos ∷ [])))
 
--- The code holds a place in the line xs, where the definitions hold what is left. What it answers for a part of the line: the value and
--- the place after it, or the place of the first byte that does not fit.
-abbrev pub Reads : {A : Type 0} → Step A → List ℕ → Result (A × ℕ) ℕ → Type 0
-Reads s xs (Ok p) = (s ≡ got p.0 (drop p.1 xs)) × (p.1 ≤ length xs)
-Reads s xs (Err i) = (s ≡ stop (drop i xs)) × (i ≤ length xs)
+-- What the code answers for a part of a line: its value and what is left after it, or what is left from the first byte on that does not
+-- fit.
+abbrev pub Reads : {A : Type 0} → Step A → Result (A × Bor (List ℕ)) (Bor (List ℕ)) → Type 0
+Reads s r = MatchResult r (λ p. s ≡ got p.0 p.1.now) (λ rest. s ≡ stop rest.now)
 
--- the same for a part that has no value
-abbrev pub Passes : Step (Unit {0}) → List ℕ → Result ℕ ℕ → Type 0
-Passes s xs (Ok i) = (s ≡ got tt (drop i xs)) × (i ≤ length xs)
-Passes s xs (Err i) = (s ≡ stop (drop i xs)) × (i ≤ length xs)
+-- the same where the value a is elsewhere, or there is none
+abbrev pub Passes : {A : Type 0} → Step A → A → Result (Bor (List ℕ)) (Bor (List ℕ)) → Type 0
+Passes s a r = MatchResult r (λ rest. s ≡ got a rest.now) (λ rest. s ≡ stop rest.now)
 
--- and for n numbers, the first of an array of four
-abbrev pub ReadsFirst : ℕ → Step (List ℕ) → List ℕ → Result (List ℕ × ℕ) ℕ → Type 0
-ReadsFirst n s xs (Ok p) = (s ≡ got (take n p.0) (drop p.1 xs)) × (p.1 ≤ length xs) × (length p.0 ≡ 4)
-ReadsFirst n s xs (Err i) = (s ≡ stop (drop i xs)) × (i ≤ length xs)
+-- and for a part that needs memory: it is not read from here on, or there is none
+abbrev pub Stops : {A : Type 0} → Step A → Stop → Type 0
+Stops s (At rest) = s ≡ stop rest.now
+Stops s NoMemory = Unit {0}
 
--- and for letters, which the code appends to those in a vector, that then has ls
-abbrev pub Spells : Step (List ℕ) → List ℕ → List ℕ → Result ℕ Fault → Type 0
-Spells s xs ls (Ok i) = (s ≡ got ls (drop i xs)) × (i ≤ length xs)
-Spells s xs ls (Err (Place i)) = (s ≡ stop (drop i xs)) × (i ≤ length xs)
-Spells s xs ls (Err Memory) = Unit {0}
-
--- and for a whole line as call number k, where ls is what the vector has then
-abbrev pub Parses : ℕ → List ℕ → List ℕ → Result (List ℕ) Fault → Type 0
-Parses k xs ls (Ok ns) = (call_in k xs ≡ got (call_of k (take (shape_of k).count ns) ls) []) × (length ns ≡ 4)
-Parses k xs ls (Err (Place i)) = (call_in k xs ≡ stop (drop i xs)) × (i ≤ length xs)
-Parses k xs ls (Err Memory) = Unit {0}
+-- letters, or a part of an answer, where a vector has ls then
+abbrev pub Adds : Step (List ℕ) → List ℕ → Result (Bor (List ℕ)) Stop → Type 0
+Adds s ls r = MatchResult r (λ rest. s ≡ got ls rest.now) (Stops s)
 
 -- want of memory is the only fault
 abbrev pub Lacks : Fault → Type 0

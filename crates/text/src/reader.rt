@@ -1,14 +1,15 @@
-// A line of text to the bytes of a call. Each part of a line has a function, which takes the place where the part begins and gives the
-// place after it, or the place of the first byte that does not fit.
-ghost use Rattle.std.specs.Prelude.{◌≡◌, ◌+◌, ◌-◌, ◌*◌, ◌<◌, ◌≤◌, false, [], ◌∷◌, ◌++◌, length, drop, is_ok, if◌then◌else◌, MatchResult};
+// A line of text to the bytes of a call. Each part of a line has a function, which takes what is left of the line and gives what is left
+// after the part, or what is left from the first byte on that does not fit.
+ghost use Rattle.std.specs.Prelude.{◌≡◌, ◌<◌, ◌≤◌, false, [], ◌∷◌, ◌++◌, length, is_ok, if◌then◌else◌, MatchResult};
 ghost use Rattle.model.specs.Paper.{pick};
 ghost use Rattle.codec.specs.Bytes.{word_bytes, words_bytes};
-ghost use Rattle.text.specs.Lines.{literal_in, digits_in, number_in, field_in, numbers_in, head_in, mark_of, letters_in, quoted_in, tail_in, shape_of, Reads, Passes, ReadsFirst, Spells, Parses, Lacks, call_in, line_reading, Makes, Fails, BytesOf, RefusedAt, limits_reading, LimitsRead};
+ghost use Rattle.text.specs.Lines.{got, stop, Reads, Passes, Adds, literal_in, digits_in, number_in, field_in, numbers_in, head_in, mark_of, letters_in, quoted_in, tail_in, shape_of, call_of, Stops, Lacks, call_in, line_reading, Makes, Fails, BytesOf, RefusedAt, limits_in, limits_reading, LimitsRead};
 
-use crate::fault::Fault;
+use crate::fault::{Fault, Stop};
 use std::alloc::{AllocError, Global};
 
-// What a byte between quotes is.
+// What a byte between quotes is: one of four, so neither an option nor a result says it.
+#[derive(Clone, Copy)]
 enum Mark {
     Letter(u8),
     Backslash,
@@ -16,108 +17,110 @@ enum Mark {
     Wrong,
 }
 
-// The shape of a call's line, by the call's number: its word, how many numbers, and whether letters come last.
-fn shape(k: u8) -> (&'static [u8], usize, bool)
-    ensures { (result.0.now ≡ (shape_of k).word) × (result.1 ≡ (shape_of k).count) × (result.2 ≡ (shape_of k).lettered) × (result.1 ≤ 4) }
-{
-    match k {
-        0 => (b"put", 3, true),
-        1 => (b"strike", 3, false),
-        2 => (b"accept", 1, false),
-        3 => (b"reject", 1, false),
-        4 => (b"style", 3, false),
-        5 => (b"undo", 0, false),
-        6 => (b"redo", 0, false),
-        7 => (b"show", 4, false),
-        8 => (b"find", 2, true),
-        9 => (b"count", 1, false),
-        10 => (b"change", 1, false),
-        _ => (b"save", 2, false),
+// The shape of a call's line: its word, how many numbers, and whether letters come last.
+#[derive(Clone, Copy)]
+struct Shape {
+    word: &'static [u8],
+    count: usize,
+    lettered: bool,
+}
+
+impl Shape {
+    // The shape of the call of number `k`.
+    fn of(k: u8) -> Shape
+        ensures { (result.word.now ≡ (shape_of k).word) × (result.count ≡ (shape_of k).count) × (result.lettered ≡ (shape_of k).lettered) × (result.count ≤ 4) }
+    {
+        // The numbers are those that a call's bytes begin with.
+        let (word, count, lettered): (&'static [u8], usize, bool) = match k {
+            0 => (b"put", 3, true),
+            1 => (b"strike", 3, false),
+            2 => (b"accept", 1, false),
+            3 => (b"reject", 1, false),
+            4 => (b"style", 3, false),
+            5 => (b"undo", 0, false),
+            6 => (b"redo", 0, false),
+            7 => (b"show", 4, false),
+            8 => (b"find", 2, true),
+            9 => (b"count", 1, false),
+            10 => (b"change", 1, false),
+            _ => (b"save", 2, false),
+        };
+        Shape {
+            word,
+            count,
+            lettered,
+        }
     }
 }
 
 // The bytes of `word`.
-fn literal(line: &[u8], at: usize, word: &[u8]) -> Result<usize, usize>
-    requires { at ≤ length line.now }
-    ensures { Passes (literal_in word.now (drop at line.now)) line.now result }
+fn literal<'a>(line: &'a [u8], word: &[u8]) -> Result<&'a [u8], &'a [u8]>
+    ensures { Passes (literal_in word.now line.now) tt result }
 {
-    let mut i = at;
+    let mut left = line;
     for w in word {
-        if i >= line.len() || line[i] != *w {
-            return Err(i);
+        match left {
+            [x, rest @ ..] if *x == *w => left = rest,
+            _ => return Err(left),
         }
-        i += 1;
     }
-    Ok(i)
+    Ok(left)
 }
 
 // The digits of a number after its first, which gave `n`.
-fn digits(line: &[u8], at: usize, mut n: u32) -> Result<(u32, usize), usize>
-    requires { at ≤ length line.now }
-    ensures { Reads (digits_in n (drop at line.now)) line.now result }
+fn digits(line: &[u8], mut n: u32) -> Result<(u32, &[u8]), &[u8]>
+    ensures { Reads (digits_in n line.now) result }
 {
-    for i in at..line.len() {
-        let x = line[i];
-        if x < b'0' || x > b'9' {
-            return Ok((n, i));
+    let mut left = line;
+    while let [x @ b'0'..=b'9', rest @ ..] = left {
+        let more = n as u64 * 10 + (*x - b'0') as u64;
+        match u32::try_from(more) {
+            Ok(more) => n = more,
+            Err(_) => return Err(left),
         }
-        let more = n as u64 * 10 + (x - b'0') as u64;
-        if more > 4294967295 {
-            return Err(i);
-        }
-        n = more as u32;
+        left = rest;
     }
-    Ok((n, line.len()))
+    Ok((n, left))
 }
 
 // A number: 0, or digits that do not begin with 0, up to 4294967295.
-fn number(line: &[u8], at: usize) -> Result<(u32, usize), usize>
-    requires { at ≤ length line.now }
-    ensures { Reads (number_in (drop at line.now)) line.now result }
+fn number(line: &[u8]) -> Result<(u32, &[u8]), &[u8]>
+    ensures { Reads (number_in line.now) result }
 {
-    if at >= line.len() {
-        return Err(at);
+    match line {
+        [b'0', rest @ ..] => Ok((0, rest)),
+        [x @ b'1'..=b'9', rest @ ..] => digits(rest, (*x - b'0') as u32),
+        _ => Err(line),
     }
-    let x = line[at];
-    if x == b'0' {
-        return Ok((0, at + 1));
-    }
-    if x < b'0' || x > b'9' {
-        return Err(at);
-    }
-    digits(line, at + 1, (x - b'0') as u32)
 }
 
 // A space and a number.
-fn field(line: &[u8], at: usize) -> Result<(u32, usize), usize>
-    requires { at ≤ length line.now }
-    ensures { Reads (field_in (drop at line.now)) line.now result }
+fn field(line: &[u8]) -> Result<(u32, &[u8]), &[u8]>
+    ensures { Reads (field_in line.now) result }
 {
-    let at = literal(line, at, b" ")?;
-    number(line, at)
+    number(literal(line, b" ")?)
 }
 
-// `count` numbers, each after a space: the first of the array.
-fn numbers(line: &[u8], mut at: usize, count: usize) -> Result<([u32; 4], usize), usize>
-    requires { (at ≤ length line.now) × (count ≤ 4) }
-    ensures { ReadsFirst count (numbers_in count [] (drop at line.now)) line.now result }
+// A number for each of `all`, after a space.
+fn numbers<'a>(line: &'a [u8], all: &mut [u32]) -> Result<&'a [u8], &'a [u8]>
+    ensures length { length all.new ≡ length all.old }
+    ensures read { Passes (numbers_in (length all.old) [] line.now) all.new result }
 {
-    let mut all = [0; 4];
-    for j in 0..count {
-        let (n, next) = field(line, at)?;
-        all[j] = n;
-        at = next;
+    let mut left = line;
+    for n in all.iter_mut() {
+        let (v, rest) = field(left)?;
+        *n = v;
+        left = rest;
     }
-    Ok((all, at))
+    Ok(left)
 }
 
-// A word and `count` numbers.
-fn head(line: &[u8], word: &[u8], count: usize) -> Result<([u32; 4], usize), usize>
-    requires { count ≤ 4 }
-    ensures { ReadsFirst count (head_in word.now count line.now) line.now result }
+// A word and the numbers.
+fn head<'a>(line: &'a [u8], word: &[u8], all: &mut [u32]) -> Result<&'a [u8], &'a [u8]>
+    ensures length { length all.new ≡ length all.old }
+    ensures read { Passes (head_in word.now (length all.old) line.now) all.new result }
 {
-    let at = literal(line, 0, word)?;
-    numbers(line, at, count)
+    numbers(literal(line, word)?, all)
 }
 
 fn meaning(escaped: bool, x: u8) -> Mark
@@ -141,58 +144,60 @@ fn meaning(escaped: bool, x: u8) -> Mark
 }
 
 // Letters up to the closing quote, appended to `text`.
-fn letters(line: &[u8], at: usize, text: &mut Vec<u8>) -> Result<usize, Fault>
-    requires { at ≤ length line.now }
-    ensures { Spells (letters_in false text.old.items (drop at line.now)) line.now text.new.items result }
+fn letters<'a>(line: &'a [u8], text: &mut Vec<u8>) -> Result<&'a [u8], Stop<'a>>
+    ensures { Adds (letters_in false text.old.items line.now) text.new.items result }
 {
     let mut escaped = false;
-    for i in at..line.len() {
-        match meaning(escaped, line[i]) {
-            Mark::Letter(x) => {
-                text.push(x)?;
+    let mut left = line;
+    while let [x, rest @ ..] = left {
+        match meaning(escaped, *x) {
+            Mark::Letter(letter) => {
+                text.push(letter)?;
                 escaped = false;
             }
             Mark::Backslash => escaped = true,
-            Mark::Quote => return Ok(i + 1),
-            Mark::Wrong => return Err(Fault::Place(i)),
+            Mark::Quote => return Ok(rest),
+            Mark::Wrong => return Err(Stop::At(left)),
         }
+        left = rest;
     }
-    Err(Fault::Place(line.len()))
+    Err(Stop::At(left))
 }
 
 // Letters between quotes, after a space.
-fn quoted(line: &[u8], at: usize, text: &mut Vec<u8>) -> Result<usize, Fault>
-    requires { (at ≤ length line.now) × (text.old.items ≡ []) }
-    ensures { Spells (quoted_in (drop at line.now)) line.now text.new.items result }
+fn quoted<'a>(line: &'a [u8], text: &mut Vec<u8>) -> Result<&'a [u8], Stop<'a>>
+    requires { text.old.items ≡ [] }
+    ensures { Adds (quoted_in line.now) text.new.items result }
 {
-    let at = literal(line, at, b" \"")?;
-    letters(line, at, text)
+    letters(literal(line, b" \"")?, text)
 }
 
 // The letters, where the line has any.
-fn tail(line: &[u8], at: usize, lettered: bool, text: &mut Vec<u8>) -> Result<usize, Fault>
-    requires { (at ≤ length line.now) × (text.old.items ≡ []) }
-    ensures { Spells (tail_in lettered (drop at line.now)) line.now text.new.items result }
+fn tail<'a>(line: &'a [u8], lettered: bool, text: &mut Vec<u8>) -> Result<&'a [u8], Stop<'a>>
+    requires { text.old.items ≡ [] }
+    ensures { Adds (tail_in lettered line.now) text.new.items result }
 {
     if lettered {
-        quoted(line, at, text)
+        quoted(line, text)
     } else {
-        Ok(at)
+        Ok(line)
     }
 }
 
-// A whole line as call number `k`: its numbers, the first of the array, and its letters, in `text`.
-fn parse(line: &[u8], k: u8, text: &mut Vec<u8>) -> Result<[u32; 4], Fault>
-    requires { text.old.items ≡ [] }
-    ensures { Parses k line.now text.new.items result }
+// A whole line as call number `k`: its numbers, and its letters, in `text`.
+fn parse<'a>(line: &'a [u8], k: u8, numbers: &mut [u32], text: &mut Vec<u8>) -> Result<(), Stop<'a>>
+    requires { (length numbers.old ≡ (shape_of k).count) × (text.old.items ≡ []) }
+    ensures length { length numbers.new ≡ length numbers.old }
+    ensures read { MatchResult result (λ _. call_in k line.now ≡ got (call_of k numbers.new text.new.items) []) (Stops (call_in k line.now)) }
 {
-    let (word, count, lettered) = shape(k);
-    let (numbers, at) = head(line, word, count)?;
-    let end = tail(line, at, lettered, text)?;
-    if end < line.len() {
-        return Err(Fault::Place(end));
+    let shape = Shape::of(k);
+    let rest = head(line, shape.word, numbers)?;
+    let rest = tail(rest, shape.lettered, text)?;
+    if rest.is_empty() {
+        Ok(())
+    } else {
+        Err(Stop::At(rest))
     }
-    Ok(numbers)
 }
 
 fn push_word(out: &mut Vec<u8>, n: u32) -> Result<(), AllocError>
@@ -231,10 +236,15 @@ fn read_as(heap: Global, line: &[u8], k: u8) -> Result<Vec<u8>, Fault>
     requires { k < 12 }
     ensures { MatchResult result (λ v. Makes (call_in k line.now) v.items) (Fails (call_in k line.now) line.now) }
 {
+    let shape = Shape::of(k);
+    let mut all = [0; 4];
+    let numbers = &mut all[..shape.count];
     let mut text = Vec::new(heap);
-    let numbers = parse(line, k, &mut text)?;
-    let (_, count, lettered) = shape(k);
-    write_call(heap, k, &numbers[0..count], lettered, text.as_slice())
+    match parse(line, k, numbers, &mut text) {
+        Ok(()) => write_call(heap, k, numbers, shape.lettered, text.as_slice()),
+        Err(Stop::At(rest)) => Err(Fault::Place(line.len() - rest.len())),
+        Err(Stop::NoMemory) => Err(Fault::Memory),
+    }
 }
 
 // The bytes of the call that a line is. A line that is no call is refused at the first byte that does not fit: the furthest place that is
@@ -245,23 +255,33 @@ pub fn read_line(heap: Global, line: &[u8]) -> Result<Vec<u8>, Fault>
     let mut far: usize = 0;
     for k in 0..12 {
         match read_as(heap, line, k) {
-            Ok(v) => return Ok(v),
-            Err(fault) => match fault {
-                Fault::Place(i) => far = far.max(i),
-                Fault::Memory => return Err(Fault::Memory),
-            },
+            Ok(call) => return Ok(call),
+            Err(Fault::Place(at)) => far = far.max(at),
+            Err(Fault::Memory) => return Err(Fault::Memory),
         }
     }
     Err(Fault::Place(far))
+}
+
+// The three limits, as the line has them.
+fn limits(line: &[u8]) -> Result<[u32; 3], &[u8]>
+    ensures { MatchResult result (λ ns. (limits_in line.now ≡ got ns []) × (length ns ≡ 3)) (λ rest. limits_in line.now ≡ stop rest.now) }
+{
+    let mut numbers = [0; 3];
+    let rest = head(line, b"limits", &mut numbers)?;
+    if rest.is_empty() {
+        Ok(numbers)
+    } else {
+        Err(rest)
+    }
 }
 
 // The limits of a file's first line: `limits CELLS CHANGES UNDOS`.
 pub fn read_limits(line: &[u8]) -> Result<(u32, u32, u32), usize>
     ensures { LimitsRead (limits_reading line.now) result }
 {
-    let (numbers, at) = head(line, b"limits", 3)?;
-    if at < line.len() {
-        return Err(at);
+    match limits(line) {
+        Ok(numbers) => Ok((numbers[0], numbers[1], numbers[2])),
+        Err(rest) => Err(line.len() - rest.len()),
     }
-    Ok((numbers[0], numbers[1], numbers[2]))
 }

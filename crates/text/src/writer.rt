@@ -1,12 +1,12 @@
-// An answer's bytes to a line of text. Each part of an answer has a function, which appends to the line, and takes the place where the
-// part begins and gives the place after it.
-ghost use Rattle.std.specs.Prelude.{◌≡◌, ◌+◌, ◌-◌, ◌<◌, ◌≤◌, true, [], ◌++◌, length, drop, decimal, MatchResult, OnOk};
+// An answer's bytes to a line of text. Each part of an answer has a function, which takes the bytes that begin with the part, appends it
+// to the line, and gives the bytes after it.
+ghost use Rattle.std.specs.Prelude.{◌≡◌, ℕ, ◌+◌, ◌≤◌, true, List, [], ◌++◌, length, decimal, MatchResult, OnOk};
 ghost use Rattle.model.specs.Calls.{Answer};
 ghost use Rattle.codec.specs.Bytes.{answer_bytes};
-ghost use Rattle.text.specs.Lines.{got, Spells, Fails, Lacks};
+ghost use Rattle.text.specs.Lines.{Step, got, Stops, Adds, Fails, Lacks};
 ghost use Rattle.text.specs.Shown.{word_at, mark_line, escape_line, cell_line, number_shown, spaced_shown, cell_shown, counted, row_shown, refusal_shown, pair_shown, table_shown, numbers_shown, form_shown, answer_shown, answer_line, showable};
 
-use crate::fault::Fault;
+use crate::fault::{Fault, Stop};
 use itoa::Buffer;
 use std::alloc::{AllocError, Global};
 
@@ -56,155 +56,141 @@ pub fn push_cell(out: &mut Vec<u8>, letter: u8, put_in: u32, struck: u32) -> Res
 }
 
 // A number.
-fn number(bytes: &[u8], at: usize, out: &mut Vec<u8>) -> Result<usize, Fault>
-    requires { at ≤ length bytes.now }
-    ensures { Spells (number_shown out.old.items (drop at bytes.now)) bytes.now out.new.items result }
+fn number<'a>(bytes: &'a [u8], out: &mut Vec<u8>) -> Result<&'a [u8], Stop<'a>>
+    ensures { Adds (number_shown out.old.items bytes.now) out.new.items result }
 {
-    if bytes.len() - at < 4 {
-        return Err(Fault::Place(at));
+    if bytes.len() < 4 {
+        return Err(Stop::At(bytes));
     }
-    push_number(out, word(bytes, at) as u64)?;
-    Ok(at + 4)
+    push_number(out, word(bytes, 0) as u64)?;
+    Ok(&bytes[4..])
+}
+
+// A part that an answer can have many of.
+trait Part {
+    // What its bytes add to the line so far.
+    ghost shown: { List ℕ → List ℕ → Step (List ℕ) };
+
+    fn write<'a>(bytes: &'a [u8], out: &mut Vec<u8>) -> Result<&'a [u8], Stop<'a>>
+        ensures { Adds (shown out.old.items bytes.now) out.new.items result };
 }
 
 // A space and a number.
-fn spaced(bytes: &[u8], at: usize, out: &mut Vec<u8>) -> Result<usize, Fault>
-    requires { at ≤ length bytes.now }
-    ensures { Spells (spaced_shown out.old.items (drop at bytes.now)) bytes.now out.new.items result }
-{
-    out.push(b' ')?;
-    number(bytes, at, out)
+struct Spaced;
+
+impl Part for Spaced {
+    ghost shown = { spaced_shown };
+
+    fn write<'a>(bytes: &'a [u8], out: &mut Vec<u8>) -> Result<&'a [u8], Stop<'a>> {
+        out.push(b' ')?;
+        number(bytes, out)
+    }
 }
 
 // A cell is four numbers: its letter, its style, and by which changes it was put in and struck out.
-fn cell(bytes: &[u8], at: usize, out: &mut Vec<u8>) -> Result<usize, Fault>
-    requires { at ≤ length bytes.now }
-    ensures { Spells (cell_shown out.old.items (drop at bytes.now)) bytes.now out.new.items result }
-{
-    if bytes.len() - at < 16 {
-        return Err(Fault::Place(at));
-    }
-    let letter = word(bytes, at);
-    if letter > 255 {
-        return Err(Fault::Place(at));
-    }
-    push_cell(out, letter as u8, word(bytes, at + 8), word(bytes, at + 12))?;
-    Ok(at + 16)
-}
+struct Cell;
 
-// A count, and so many cells.
-fn cells(bytes: &[u8], mut at: usize, out: &mut Vec<u8>) -> Result<usize, Fault>
-    requires { at ≤ length bytes.now }
-    ensures { Spells (counted cell_shown out.old.items (drop at bytes.now)) bytes.now out.new.items result }
-{
-    if bytes.len() - at < 4 {
-        return Err(Fault::Place(at));
+impl Part for Cell {
+    ghost shown = { cell_shown };
+
+    fn write<'a>(bytes: &'a [u8], out: &mut Vec<u8>) -> Result<&'a [u8], Stop<'a>> {
+        if bytes.len() < 16 {
+            return Err(Stop::At(bytes));
+        }
+        let Ok(letter) = u8::try_from(word(bytes, 0)) else {
+            return Err(Stop::At(bytes));
+        };
+        push_cell(out, letter, word(bytes, 8), word(bytes, 12))?;
+        Ok(&bytes[16..])
     }
-    let mut left = word(bytes, at);
-    at += 4;
-    while left > 0 {
-        at = cell(bytes, at, out)?;
-        left -= 1;
-    }
-    Ok(at)
 }
 
 // A row: its cells, and a bar after them.
-fn row(bytes: &[u8], at: usize, out: &mut Vec<u8>) -> Result<usize, Fault>
-    requires { at ≤ length bytes.now }
-    ensures { Spells (row_shown out.old.items (drop at bytes.now)) bytes.now out.new.items result }
-{
-    let at = cells(bytes, at, out)?;
-    out.push(b'|')?;
-    Ok(at)
+struct Row;
+
+impl Part for Row {
+    ghost shown = { row_shown };
+
+    fn write<'a>(bytes: &'a [u8], out: &mut Vec<u8>) -> Result<&'a [u8], Stop<'a>> {
+        let rest = counted::<Cell>(bytes, out)?;
+        out.push(b'|')?;
+        Ok(rest)
+    }
 }
 
-// A count, and so many rows.
-fn rows(bytes: &[u8], mut at: usize, out: &mut Vec<u8>) -> Result<usize, Fault>
-    requires { at ≤ length bytes.now }
-    ensures { Spells (counted row_shown out.old.items (drop at bytes.now)) bytes.now out.new.items result }
+// A count, and so many of a kind.
+fn counted<'a, P: Part>(bytes: &'a [u8], out: &mut Vec<u8>) -> Result<&'a [u8], Stop<'a>>
+    ensures { Adds (counted P.shown out.old.items bytes.now) out.new.items result }
 {
-    if bytes.len() - at < 4 {
-        return Err(Fault::Place(at));
+    if bytes.len() < 4 {
+        return Err(Stop::At(bytes));
     }
-    let mut left = word(bytes, at);
-    at += 4;
-    while left > 0 {
-        at = row(bytes, at, out)?;
-        left -= 1;
+    let mut left = &bytes[4..];
+    for _ in 0..word(bytes, 0) {
+        left = P::write(left, out)?;
     }
-    Ok(at)
-}
-
-// A count, and so many numbers.
-fn numbers(bytes: &[u8], mut at: usize, out: &mut Vec<u8>) -> Result<usize, Fault>
-    requires { at ≤ length bytes.now }
-    ensures { Spells (counted spaced_shown out.old.items (drop at bytes.now)) bytes.now out.new.items result }
-{
-    if bytes.len() - at < 4 {
-        return Err(Fault::Place(at));
-    }
-    let mut left = word(bytes, at);
-    at += 4;
-    while left > 0 {
-        at = spaced(bytes, at, out)?;
-        left -= 1;
-    }
-    Ok(at)
+    Ok(left)
 }
 
 // A refusal and its place.
-fn refusal(bytes: &[u8], at: usize, out: &mut Vec<u8>) -> Result<usize, Fault>
-    requires { at ≤ length bytes.now }
-    ensures { Spells (refusal_shown out.old.items (drop at bytes.now)) bytes.now out.new.items result }
+fn refusal<'a>(bytes: &'a [u8], out: &mut Vec<u8>) -> Result<&'a [u8], Stop<'a>>
+    ensures { Adds (refusal_shown out.old.items bytes.now) out.new.items result }
 {
     out.extend_from_slice(b"refused")?;
-    let at = spaced(bytes, at, out)?;
+    let rest = Spaced::write(bytes, out)?;
     out.extend_from_slice(b" at")?;
-    spaced(bytes, at, out)
+    Spaced::write(rest, out)
 }
 
 // Two numbers.
-fn pair(bytes: &[u8], at: usize, out: &mut Vec<u8>) -> Result<usize, Fault>
-    requires { at ≤ length bytes.now }
-    ensures { Spells (pair_shown out.old.items (drop at bytes.now)) bytes.now out.new.items result }
+fn pair<'a>(bytes: &'a [u8], out: &mut Vec<u8>) -> Result<&'a [u8], Stop<'a>>
+    ensures { Adds (pair_shown out.old.items bytes.now) out.new.items result }
 {
-    let at = number(bytes, at, out)?;
-    spaced(bytes, at, out)
+    let rest = number(bytes, out)?;
+    Spaced::write(rest, out)
 }
 
 // Rows, with a bar before the first.
-fn table(bytes: &[u8], at: usize, out: &mut Vec<u8>) -> Result<usize, Fault>
-    requires { at ≤ length bytes.now }
-    ensures { Spells (table_shown out.old.items (drop at bytes.now)) bytes.now out.new.items result }
+fn table<'a>(bytes: &'a [u8], out: &mut Vec<u8>) -> Result<&'a [u8], Stop<'a>>
+    ensures { Adds (table_shown out.old.items bytes.now) out.new.items result }
 {
     out.extend_from_slice(b"rows |")?;
-    rows(bytes, at, out)
+    counted::<Row>(bytes, out)
 }
 
 // A row of numbers.
-fn list(bytes: &[u8], at: usize, out: &mut Vec<u8>) -> Result<usize, Fault>
-    requires { at ≤ length bytes.now }
-    ensures { Spells (numbers_shown out.old.items (drop at bytes.now)) bytes.now out.new.items result }
+fn list<'a>(bytes: &'a [u8], out: &mut Vec<u8>) -> Result<&'a [u8], Stop<'a>>
+    ensures { Adds (numbers_shown out.old.items bytes.now) out.new.items result }
 {
     out.extend_from_slice(b"numbers")?;
-    numbers(bytes, at, out)
+    counted::<Spaced>(bytes, out)
 }
 
 // Any of the five forms, by the first byte.
-fn form(bytes: &[u8], out: &mut Vec<u8>) -> Result<usize, Fault>
-    ensures { Spells (form_shown out.old.items bytes.now) bytes.now out.new.items result }
+fn form<'a>(bytes: &'a [u8], out: &mut Vec<u8>) -> Result<&'a [u8], Stop<'a>>
+    ensures { Adds (form_shown out.old.items bytes.now) out.new.items result }
 {
-    if bytes.len() == 0 {
-        return Err(Fault::Place(0));
+    // The numbers are those that an answer's bytes begin with.
+    match bytes {
+        [0, rest @ ..] => refusal(rest, out),
+        [1, rest @ ..] => number(rest, out),
+        [2, rest @ ..] => pair(rest, out),
+        [3, rest @ ..] => table(rest, out),
+        [4, rest @ ..] => list(rest, out),
+        _ => Err(Stop::At(bytes)),
     }
-    match bytes[0] {
-        0 => refusal(bytes, 1, out),
-        1 => number(bytes, 1, out),
-        2 => pair(bytes, 1, out),
-        3 => table(bytes, 1, out),
-        4 => list(bytes, 1, out),
-        _ => Err(Fault::Place(0)),
+}
+
+// A whole answer.
+fn whole<'a>(bytes: &'a [u8], out: &mut Vec<u8>) -> Result<(), Stop<'a>>
+    requires { out.old.items ≡ [] }
+    ensures { MatchResult result (λ _. answer_shown bytes.now ≡ got out.new.items []) (Stops (answer_shown bytes.now)) }
+{
+    let rest = form(bytes, out)?;
+    if rest.is_empty() {
+        Ok(())
+    } else {
+        Err(Stop::At(rest))
     }
 }
 
@@ -214,9 +200,9 @@ pub fn write_answer(heap: Global, answer: &[u8]) -> Result<Vec<u8>, Fault>
     ensures line { (a : Answer) → showable a ≡ true → answer.now ≡ answer_bytes a → MatchResult result (λ v. v.items ≡ answer_line a) Lacks }
 {
     let mut out = Vec::new(heap);
-    let end = form(answer, &mut out)?;
-    if end < answer.len() {
-        return Err(Fault::Place(end));
+    match whole(answer, &mut out) {
+        Ok(()) => Ok(out),
+        Err(Stop::At(rest)) => Err(Fault::Place(answer.len() - rest.len())),
+        Err(Stop::NoMemory) => Err(Fault::Memory),
     }
-    Ok(out)
 }

@@ -1,6 +1,5 @@
 -- The lines of a file, one by one. Assumes nothing.
 use Rattle.std.proofs.Common.{◌≡◌, ℕ, zero, suc, ◌<◌, true, false, eqb, List, [], ◌∷◌, length, get_or, take, drop, refl, ap, ◌∙◌, arith}
-use Rattle.std.proofs.lemmas.List.{drop_all}
 use Rattle.std.proofs.lemmas.Bool.{ne_eqb}
 use Rattle.transcript.specs.Transcript.{onto, lines_of, passed_over, kept_lines, call_lines}
 
@@ -22,7 +21,7 @@ line_ends (x ∷ xs) (suc i) h f e =
     rw (no, line_ends xs i l (rest_plain x xs i f) e) refl
 
 -- a line that ends with the file
-pub line_last : (xs : List ℕ) → 0 < length xs → Plain xs (length xs) → lines_of xs ≡ xs ∷ []
+line_last : (xs : List ℕ) → 0 < length xs → Plain xs (length xs) → lines_of xs ≡ xs ∷ []
 unfolding lines_of
 line_last [] h f = absurd (omega arith)
 line_last (x ∷ []) h f =
@@ -34,9 +33,14 @@ line_last (x ∷ (y ∷ xs)) h f =
     let e : lines_of (y ∷ xs) ≡ (y ∷ xs) ∷ [] = line_last (y ∷ xs) l (rest_plain x (y ∷ xs) (length (y ∷ xs)) f) in
     rw no (ap (onto x) e)
 
-pub line_rest : (xs : List ℕ) → 0 < length xs → Plain xs (length xs) → lines_of xs ≡ xs ∷ lines_of (drop (length xs) xs)
+pub line_rest : (xs : List ℕ) → 0 < length xs → Plain xs (length xs) → lines_of xs ≡ xs ∷ lines_of []
 unfolding lines_of
-line_rest xs h f = rw (drop_all (length xs) xs (omega arith)) (line_last xs h f)
+line_rest xs h f = line_last xs h f
+
+pub no_lines : (file : List ℕ) → length file ≡ 0 → lines_of file ≡ []
+unfolding lines_of
+no_lines [] h = refl
+no_lines (x ∷ xs) h = absurd (omega arith)
 
 -- a line that is passed over, and one that is kept
 pub passes : (file line rest : List ℕ) → lines_of file ≡ line ∷ lines_of rest → passed_over line ≡ true → call_lines file ≡ call_lines rest
@@ -47,7 +51,6 @@ pub keeps : (file line rest : List ℕ) → lines_of file ≡ line ∷ lines_of 
 unfolding kept_lines
 keeps file line rest e h = ap kept_lines e ∙ rw h refl
 
-pub no_lines : (file : List ℕ) → length file ≡ 0 → call_lines file ≡ []
-unfolding kept_lines lines_of
-no_lines [] h = refl
-no_lines (x ∷ xs) h = absurd (omega arith)
+pub no_calls : (file : List ℕ) → lines_of file ≡ [] → call_lines file ≡ []
+unfolding kept_lines
+no_calls file h = ap kept_lines h

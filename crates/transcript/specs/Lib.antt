@@ -1,2 +1,3 @@
 pub mod Transcript
 pub mod Serving
+pub mod Open

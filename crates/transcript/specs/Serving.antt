@@ -1,44 +1,57 @@
 -- What the parts of the program promise. Definitions only: nothing is assumed.
-use Rattle.std.specs.Prelude.{◌≡◌, ℕ, true, false, List, ◌++◌, Some, None, Option, Result, MatchResult}
+use Rattle.std.specs.Prelude.{◌≡◌, ℕ, true, false, List, [], ◌∷◌, ◌++◌, Result, MatchResult}
 use Rattle.model.specs.Paper.{pick}
-use Rattle.model.specs.Calls.{Call, Desk, Limits, after, answer, ran, new_desk}
+use Rattle.model.specs.Calls.{Call, Answer, refused, Desk, Limits as DeskLimits, after, answer, ran, new_desk}
 use Rattle.codec.specs.Bytes.{call_bytes}
 use Rattle.session.specs.Contract.{good_limits}
-use Rattle.session.specs.Memory.{limits_of, Sound, Stands}
-use Rattle.text.specs.Lines.{line_reading, Lacks}
+use Rattle.session.specs.declared.Limits.{Limits}
+use Rattle.text.specs.Lines.{Reading, means, line_reading, Lacks}
 use Rattle.text.specs.declared.fault.Fault.{Fault}
-use Rattle.transcript.specs.Transcript.{room_for, line_answer, line_after, line_answers, call_lines, told_line, told_lines}
+use Rattle.transcript.specs.declared.Refusal.{Refusal}
+use Rattle.transcript.specs.declared.Refusal.TheVariants.{Line, NoDesk, NoRoom}
+use Rattle.transcript.specs.declared.open.OpenDesk.{OpenDesk}
+use Rattle.transcript.specs.Open.{limits_at, StandsFor}
+use Rattle.transcript.specs.Transcript.{room_for, line_answer, line_after, line_answers, call_lines, answers_after, told_at, told_line, told_lines}
 
 -- bytes were appended, or there is no memory
 abbrev pub Appends : List ℕ → List ℕ → List ℕ → Result (Unit {0}) Fault → Type 0
 Appends bs out out' r = MatchResult r (λ _. out' ≡ out ++ bs) Lacks
 
 -- a desk that calls made from a new one
-abbrev pub Reached : Limits → Desk → Type 0
+abbrev pub Reached : DeskLimits → Desk → Type 0
 Reached l d = (cs : List Call) × (d ≡ ran l new_desk cs)
 
--- A call was done: likewise, where the bytes are those of a call.
-pub record CallDone (cs ps us bs out cs' ps' us' out' : List ℕ) (r : Result (Unit {0}) Fault) : Type 0 where
-  pub sound : Sound cs' ps' us'
-  pub limits : limits_of ps' ≡ limits_of ps
-  pub call : (c : Call) → bs ≡ call_bytes c → (d : Desk) → Reached (limits_of ps) d → Stands cs ps us d →
-      MatchResult r (λ _. (out' ≡ out ++ told_line (answer (limits_of ps) d c)) × Stands cs' ps' us' (after (limits_of ps) d c)) Lacks
+-- A call was done: where the bytes are those of a call, at any such desk that the memory m stood for, its answer was appended, and the memory
+-- m' stands for the desk after it.
+pub record CallDone (m : OpenDesk) (bs out : List ℕ) (m' : OpenDesk) (out' : List ℕ) (r : Result (Unit {0}) Fault) : Type 0 where
+  pub limits : limits_at m' ≡ limits_at m
+  pub call : (c : Call) → bs ≡ call_bytes c → (d : Desk) → Reached (limits_at m) d → StandsFor m d →
+      MatchResult r (λ _. (out' ≡ out ++ told_line (answer (limits_at m) d c)) × StandsFor m' (after (limits_at m) d c)) Lacks
 
--- One line was answered: at any such desk that memory stood for, its answer was appended, and memory stands for the desk after it.
-pub record Answered (cs ps us line out cs' ps' us' out' : List ℕ) (r : Result (Unit {0}) Fault) : Type 0 where
-  pub sound : Sound cs' ps' us'
-  pub limits : limits_of ps' ≡ limits_of ps
-  pub answers : (d : Desk) → Reached (limits_of ps) d → Stands cs ps us d →
-      MatchResult r (λ _. (out' ≡ out ++ told_line (line_answer (limits_of ps) d (line_reading line))) × Stands cs' ps' us' (line_after (limits_of ps) d (line_reading line))) Lacks
+-- One line was answered: likewise.
+pub record Answered (m : OpenDesk) (line out : List ℕ) (m' : OpenDesk) (out' : List ℕ) (r : Result (Unit {0}) Fault) : Type 0 where
+  pub limits : limits_at m' ≡ limits_at m
+  pub answers : (d : Desk) → Reached (limits_at m) d → StandsFor m d →
+      MatchResult r (λ _. (out' ≡ out ++ told_line (line_answer (limits_at m) d (line_reading line))) × StandsFor m' (line_after (limits_at m) d (line_reading line))) Lacks
 
 -- Between two lines: memory stands for a desk at which the lines that are left are answered as they would have been from the start.
-pub record Going (cs ps us file out cs' ps' us' rest out' : List ℕ) : Type 0 where
-  pub sound : Sound cs' ps' us'
-  pub limits : limits_of ps' ≡ limits_of ps
-  pub going : (d : Desk) → Reached (limits_of ps) d → Stands cs ps us d →
-      (e : Desk) × Reached (limits_of ps) e × Stands cs' ps' us' e × (out' ++ told_lines (line_answers (limits_of ps) e (call_lines rest)) ≡ out ++ told_lines (line_answers (limits_of ps) d (call_lines file)))
+pub record Going (m : OpenDesk) (file out : List ℕ) (m' : OpenDesk) (rest out' : List ℕ) : Type 0 where
+  pub limits : limits_at m' ≡ limits_at m
+  pub going : (d : Desk) → Reached (limits_at m) d → StandsFor m d →
+      (e : Desk) × Reached (limits_at m) e × StandsFor m' e × (out' ++ told_lines (line_answers (limits_at m) e (call_lines rest)) ≡ out ++ told_lines (line_answers (limits_at m) d (call_lines file)))
 
--- Where limits are refused, if they are: at 1 if no desk can have them, else at 0 if there is no room for them.
-abbrev pub RefusedAt : (n c u : ℕ) → Option ℕ → Type 0
-RefusedAt n c u (Some i) = (room_for n c u ≡ false) × (i ≡ pick (good_limits n c u) 0 1)
-RefusedAt n c u None = room_for n c u ≡ true
+-- what a refusal says
+abbrev pub said : Refusal → Answer
+said (Line i) = refused 1 (told_at i)
+said NoDesk = refused 3 1
+said NoRoom = refused 3 0
+
+-- There is room for limits, or they are refused: because no desk can have them, or else because there is no room.
+abbrev pub RoomFound : (n c u : ℕ) → Result (Unit {0}) Refusal → Type 0
+RoomFound n c u r = MatchResult r (λ _. room_for n c u ≡ true) (λ e. (room_for n c u ≡ false) × (e ≡ pick (good_limits n c u) NoRoom NoDesk))
+
+-- The limits of a first line, for which there is room, or the refusal that is the only answer to the file.
+abbrev pub LimitsFound : Reading (List ℕ) → Result Limits Refusal → Type 0
+LimitsFound rd r =
+    MatchResult r (λ l. (rd ≡ means (l.cells ∷ (l.changes ∷ (l.undos ∷ [])))) × (room_for l.cells l.changes l.undos ≡ true))
+    (λ e. (lines : List (List ℕ)) → answers_after rd lines ≡ said e ∷ [])

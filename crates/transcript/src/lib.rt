@@ -1,16 +1,18 @@
 // The answers to a file of calls, a line for each. What they are is in specs/.
 #![tactic(auto)]
 
-ghost use Rattle.std.specs.Prelude.{◌≡◌, ◌<◌, ◌≤◌, min, true, [], ◌∷◌, length, Some, None, MatchResult};
-ghost use Rattle.model.specs.Calls.{Answer as Said, Desk, new_desk, refused};
+ghost use Rattle.std.specs.Prelude.{◌≡◌, ◌<◌, ◌≤◌, min, true, [], ◌∷◌, length, MatchOption, MatchResult};
+ghost use Rattle.model.specs.Calls.{Answer as Saying};
 ghost use Rattle.codec.specs.Bytes.{answer_bytes};
-ghost use Rattle.session.specs.Memory.{Sound, Stands, limits_of};
 ghost use Rattle.text.specs.Lines.{Lacks, limits_reading};
 ghost use Rattle.text.specs.Shown.{showable};
-ghost use Rattle.transcript.specs.Serving.{Answered, Appends, CallDone, Reached, RefusedAt};
-ghost use Rattle.transcript.specs.Transcript.{AnswersCalls, answers_after, call_lines, limits_for, line_answers, lines_of, passed_over, room_for, told_line, told_lines, transcript};
+ghost use Rattle.transcript.specs.Serving.{Appends, LimitsFound, RoomFound, said};
+ghost use Rattle.transcript.specs.Transcript.{AnswersCalls, answers_after, call_lines, lines_of, passed_over, told_line, told_lines, transcript};
+
+mod open;
 
 use codec::Answer;
+use open::OpenDesk;
 use session::Limits;
 use std::alloc::Global;
 use text::Fault;
@@ -22,46 +24,58 @@ const MOST_CHANGES: u32 = 128;
 
 const MOST_UNDOS: u32 = 2048;
 
-// How many words and bytes it lends: what the session asks for under those limits, and the longest answer.
-const CELLS_WORDS: usize = 28672;
+// Why a line is not done.
+#[derive(Clone, Copy)]
+enum Refusal {
+    // It does not fit, from this place on.
+    Line(usize),
+    // No desk can have these limits.
+    NoDesk,
+    // There is no room for them here.
+    NoRoom,
+}
 
-const PIECES_WORDS: usize = 10512;
+impl Refusal {
+    ghost use Rattle.codec.specs.Values.{told};
 
-const UNDO_WORDS: usize = 1;
-
-const ANSWER_BYTES: usize = 262405;
-
-// The first line of a file, and what comes after it. A line ends with byte 10 or with the file.
-fn next_line(file: &[u8]) -> (&[u8], &[u8])
-    requires { 0 < length file.now }
-    ensures lines { lines_of file.now ≡ result.0.now ∷ lines_of result.1.now }
-    ensures less { length result.1.now < length file.now }
-{
-    for i in 0..file.len() {
-        if file[i] == b'\n' {
-            return (&file[0..i], &file[i + 1..]);
+    fn answer(self) -> Answer
+        ensures { told result ≡ said self }
+    {
+        // The numbers are those of the refusals of a desk.
+        match self {
+            Refusal::Line(at) => Answer::Refused(1, told_place(at)),
+            Refusal::NoDesk => Answer::Refused(3, 1),
+            Refusal::NoRoom => Answer::Refused(3, 0),
         }
     }
-    (file, &file[file.len()..])
+}
+
+// The first line of a file, and what comes after it. A line ends with byte 10 or with the file.
+fn next_line(file: &[u8]) -> Option<(&[u8], &[u8])>
+    ensures { MatchOption result (lines_of file.now ≡ []) (λ p. (lines_of file.now ≡ p.0.now ∷ lines_of p.1.now) × (length p.1.now < length file.now)) }
+{
+    if file.is_empty() {
+        return None;
+    }
+    match file.iter().position(|x| *x == b'\n') {
+        Some(i) => Some((&file[..i], &file[i + 1..])),
+        None => Some((file, &[])),
+    }
 }
 
 // Empty lines and lines that begin with # are passed over.
 fn is_passed(line: &[u8]) -> bool
     ensures { result ≡ passed_over line.now }
 {
-    match line {
-        [first, ..] => *first == b'#',
-        [] => true,
-    }
+    matches!(line, [] | [b'#', ..])
 }
 
 // The first line that is not passed over, and what comes after it.
 fn next_call(file: &[u8]) -> Option<(&[u8], &[u8])>
-    ensures { elim result [ Some p ↦ (call_lines file.now ≡ p.0.now ∷ call_lines p.1.now) × (length p.1.now < length file.now) | None ↦ call_lines file.now ≡ [] ] }
+    ensures { MatchOption result (call_lines file.now ≡ []) (λ p. (call_lines file.now ≡ p.0.now ∷ call_lines p.1.now) × (length p.1.now < length file.now)) }
 {
     let mut rest = file;
-    while rest.len() > 0 {
-        let (line, after) = next_line(rest);
+    while let Some((line, after)) = next_line(rest) {
         if !is_passed(line) {
             return Some((line, after));
         }
@@ -74,132 +88,44 @@ fn next_call(file: &[u8]) -> Option<(&[u8], &[u8])>
 fn told_place(at: usize) -> u32
     ensures { result ≡ min at 4294967295 }
 {
-    if at < 4294967295 {
-        at as u32
-    } else {
-        4294967295
-    }
-}
-
-// Appends bytes.
-fn append(bytes: &[u8], out: &mut Vec<u8>) -> Result<(), Fault>
-    ensures { Appends bytes.now out.old.items out.new.items result }
-{
-    match out.extend_from_slice(bytes) {
-        Ok(_) => Ok(()),
-        Err(_) => Err(Fault::Memory),
-    }
+    u32::try_from(at).unwrap_or(u32::MAX)
 }
 
 // Appends the line of an answer that can be shown, from its bytes.
-fn tell(heap: Global, answer: &[u8], out: &mut Vec<u8>) -> Result<(), Fault>
-    ensures { (a : Said) → showable a ≡ true → answer.now ≡ answer_bytes a → Appends (told_line a) out.old.items out.new.items result }
+fn tell(answer: &[u8], out: &mut Vec<u8>) -> Result<(), Fault>
+    ensures { (a : Saying) → showable a ≡ true → answer.now ≡ answer_bytes a → Appends (told_line a) out.old.items out.new.items result }
 {
-    let line = text::write_answer(heap, answer)?;
-    append(line.as_slice(), out)?;
-    append(b"\n", out)
+    let line = text::write_answer(*out.allocator(), answer)?;
+    out.extend_from_slice(line.as_slice())?;
+    out.push(b'\n')?;
+    Ok(())
 }
 
 // Appends the line of a refusal.
-fn refuse(heap: Global, number: u32, place: u32, out: &mut Vec<u8>) -> Result<(), Fault>
-    ensures { Appends (told_line (refused number place)) out.old.items out.new.items result }
+fn refuse(refusal: Refusal, out: &mut Vec<u8>) -> Result<(), Fault>
+    ensures { Appends (told_line (said refusal)) out.old.items out.new.items result }
 {
     let mut bytes = [0; 9];
-    let _long = codec::write(Answer::Refused(number, place), &mut bytes);
-    tell(heap, &bytes, out)
+    let _long = codec::write(refusal.answer(), &mut bytes);
+    tell(&bytes, out)
 }
 
-// Does the call that the bytes are, and appends its answer.
-fn answer_call(
-    heap: Global,
-    cells: &mut [u32],
-    pieces: &mut [u32],
-    undo: &mut [u32],
-    call: &[u8],
-    answer: &mut [u8],
-    out: &mut Vec<u8>,
-) -> Result<(), Fault>
-    requires sound { Sound cells.old pieces.old undo.old }
-    requires room { 262405 ≤ length answer.old }
-    ensures { CallDone cells.old pieces.old undo.old call.now out.old.items cells.new pieces.new undo.new out.new.items result }
+// Limits that no desk can have are refused, and limits that there is no room for here.
+fn check(limits: Limits) -> Result<(), Refusal>
+    ensures { RoomFound limits.cells limits.changes limits.undos result }
 {
-    // Each letter was put in by a call: so every answer can be shown.
-    model::letters::nothing_from_nowhere();
-    let long = session::call(cells, pieces, undo, call, answer);
-    tell(heap, &answer[0..long], out)
-}
-
-// Answers one line.
-fn answer_line(
-    heap: Global,
-    cells: &mut [u32],
-    pieces: &mut [u32],
-    undo: &mut [u32],
-    line: &[u8],
-    answer: &mut [u8],
-    out: &mut Vec<u8>,
-) -> Result<(), Fault>
-    requires sound { Sound cells.old pieces.old undo.old }
-    requires room { 262405 ≤ length answer.old }
-    ensures { Answered cells.old pieces.old undo.old line.now out.old.items cells.new pieces.new undo.new out.new.items result }
-{
-    match text::read_line(heap, line) {
-        Ok(call) => answer_call(heap, cells, pieces, undo, call.as_slice(), answer, out),
-        Err(fault) => match fault {
-            Fault::Place(at) => refuse(heap, 1, told_place(at), out),
-            Fault::Memory => Err(Fault::Memory),
-        },
+    if limits.cells > 1_000_000 || limits.changes > 65_536 || limits.undos > 1_000_000 {
+        return Err(Refusal::NoDesk);
     }
-}
-
-// Answers each line of what is left of a file.
-fn answer_lines(
-    heap: Global,
-    cells: &mut [u32],
-    pieces: &mut [u32],
-    undo: &mut [u32],
-    file: &[u8],
-    answer: &mut [u8],
-    out: &mut Vec<u8>,
-) -> Result<(), Fault>
-    requires sound { Sound cells.old pieces.old undo.old }
-    requires room { 262405 ≤ length answer.old }
-    ensures { (d : Desk) → Reached (limits_of pieces.old) d → Stands cells.old pieces.old undo.old d → Appends (told_lines (line_answers (limits_of pieces.old) d (call_lines file.now))) out.old.items out.new.items result }
-{
-    let mut rest = file;
-    while let Some((line, after)) = next_call(rest) {
-        answer_line(heap, cells, pieces, undo, line, answer, out)?;
-        rest = after;
+    if limits.cells > MOST_CELLS || limits.changes > MOST_CHANGES || limits.undos > MOST_UNDOS {
+        return Err(Refusal::NoRoom);
     }
     Ok(())
 }
 
-// Opens a desk with these limits, and answers each line of what is left of a file.
-fn serve(heap: Global, limits: Limits, file: &[u8], out: &mut Vec<u8>) -> Result<(), Fault>
-    requires { room_for limits.cells limits.changes limits.undos ≡ true }
-    ensures { Appends (told_lines (line_answers (limits_for limits.cells limits.changes limits.undos) new_desk (call_lines file.now))) out.old.items out.new.items result }
-{
-    let mut cells = [0; CELLS_WORDS];
-    let mut pieces = [0; PIECES_WORDS];
-    let mut undo = [0; UNDO_WORDS];
-    let mut answer = [0; ANSWER_BYTES];
-    match session::open(&mut cells, &mut pieces, &mut undo, limits) {
-        Ok(_) => answer_lines(
-            heap,
-            &mut cells,
-            &mut pieces,
-            &mut undo,
-            file,
-            &mut answer,
-            out,
-        ),
-        Err(_) => unreachable(),
-    }
-}
-
-// Appends the answers to a file, whose first line is apart from the others.
-fn begin(heap: Global, first: &[u8], file: &[u8], out: &mut Vec<u8>) -> Result<(), Fault>
-    ensures { Appends (told_lines (answers_after (limits_reading first.now) (call_lines file.now))) out.old.items out.new.items result }
+// The limits in the first line, if there is room for them.
+fn limits_of(first: &[u8]) -> Result<Limits, Refusal>
+    ensures { LimitsFound (limits_reading first.now) result }
 {
     match text::read_limits(first) {
         Ok((cells, changes, undos)) => {
@@ -208,26 +134,24 @@ fn begin(heap: Global, first: &[u8], file: &[u8], out: &mut Vec<u8>) -> Result<(
                 changes,
                 undos,
             };
-            match refused_at(limits) {
-                Some(place) => refuse(heap, 3, place, out),
-                None => serve(heap, limits, file, out),
-            }
+            check(limits)?;
+            Ok(limits)
         }
-        Err(at) => refuse(heap, 1, told_place(at), out),
+        Err(at) => Err(Refusal::Line(at)),
     }
 }
 
-// Where limits are refused: at 1 if no desk can have them, else at 0 if there is no room for them here.
-fn refused_at(limits: Limits) -> Option<u32>
-    ensures { RefusedAt limits.cells limits.changes limits.undos result }
+// Appends the answers to a file, whose first line is apart from the others.
+fn begin(heap: Global, first: &[u8], file: &[u8], out: &mut Vec<u8>) -> Result<(), Fault>
+    ensures { Appends (told_lines (answers_after (limits_reading first.now) (call_lines file.now))) out.old.items out.new.items result }
 {
-    if limits.cells > 1_000_000 || limits.changes > 65_536 || limits.undos > 1_000_000 {
-        return Some(1);
+    match limits_of(first) {
+        Ok(limits) => {
+            let mut desk = OpenDesk::open(heap, limits)?;
+            desk.answer_lines(file, out)
+        }
+        Err(refusal) => refuse(refusal, out),
     }
-    if limits.cells > MOST_CELLS || limits.changes > MOST_CHANGES || limits.undos > MOST_UNDOS {
-        return Some(0);
-    }
-    None
 }
 
 // The answers to a file of calls, or want of memory.
@@ -242,8 +166,9 @@ pub fn answer_file(heap: Global, file: &[u8]) -> Result<Vec<u8>, Fault>
 }
 
 // For every list of calls, the answers to its file are those of the model.
-pub fn answers_calls() -> u8
+pub fn answers_calls()
     ensures { AnswersCalls }
 {
-    text::reads_back() ^ text::limits_back()
+    text::reads_back();
+    text::limits_back();
 }

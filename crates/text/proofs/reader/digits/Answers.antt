@@ -1,29 +1,30 @@
-use Rattle.std.proofs.Common.{◌≡◌, length, drop, sym, ap, ◌∙◌, arith}
-use Rattle.text.specs.Lines.{got}
-use Rattle.text.proofs.Steps.{digits_done, digits_end, digits_over, digits_more}
+use Rattle.std.proofs.Common.{◌≤◌, ◌<◌, ◌+◌, ◌-◌, ◌*◌, get_or, sym, ap, ◌∙◌, inl, inr, arith}
+use Rattle.text.specs.Lines.{digits_in}
+use Rattle.text.proofs.Steps.{digits_done, digits_end, digits_over, digits_more, after}
 use Rattle.text.proofs.reader.digits.Goals as goal
+use Rattle.text.proofs.reader.digits.Goals.{in_default, in_default-2, in_default-3}
 
-pub returns-then-x-lt48 : goal.returns-then-x-lt48
-returns-then-x-lt48 c =
-    (sym c.loop-i.invariant.0 ∙ digits_end c.args.line.now c.loop-i.i c.loop-i.n c.loop-i-test.true c.then-x-lt48.either, omega arith)
+pub returns-in-Err : goal.returns-in-Err
+returns-in-Err c =
+    let xs = c.loop-left.left.now in
+    let low : 48 ≤ get_or xs 0 0 = omega arith in
+    let high : get_or xs 0 0 ≤ 57 = omega arith in
+    let big : 4294967296 ≤ c.loop-left.n * 10 + (get_or xs 0 0 - 48) = omega (arith, c.in-Err.ensures) in
+    sym c.loop-left.invariant ∙ digits_over c.loop-left.n xs c.in-48-to-57.len_at_least low high big
 
-pub returns-then-more-gt4294967295 : goal.returns-then-more-gt4294967295
-returns-then-more-gt4294967295 c = (
-  sym c.loop-i.invariant.0
-      ∙ digits_over c.args.line.now c.loop-i.i c.loop-i.n c.loop-i-test.true c.if-x-lt48.false c.if-x-gt57.false c.if-more-gt4294967295.true,
-  omega arith,
-)
-
-pub loop-i-preserved : goal.loop-i-preserved
-loop-i-preserved c = (
-  sym (digits_more c.args.line.now c.loop-i.i c.loop-i.n c.loop-i-test.true c.if-x-lt48.false c.if-x-gt57.false c.if-more-gt4294967295.false)
-      ∙ c.loop-i.invariant.0,
-  omega arith,
-)
+pub loop-left-preserved : goal.loop-left-preserved
+loop-left-preserved c =
+    let xs = c.loop-left.left.now in
+    let low : 48 ≤ get_or xs 0 0 = omega arith in
+    let high : get_or xs 0 0 ≤ 57 = omega arith in
+    let small : c.loop-left.n * 10 + (get_or xs 0 0 - 48) < 4294967296 = c.in-Ok.ensures.0 in
+    ap (λ n. digits_in n (after xs)) c.in-Ok.ensures.1 ∙ (sym (digits_more c.loop-left.n xs c.in-48-to-57.len_at_least low high small) ∙ c.loop-left.invariant)
 
 pub returns : goal.returns
 returns c =
-    let e : c.loop-i.i ≡ length c.args.line.now = omega arith in (
-      sym c.loop-i.invariant.0 ∙ (digits_done c.args.line.now c.loop-i.i c.loop-i.n c.loop-i-test.false ∙ ap (λ i. got c.loop-i.n (drop i c.args.line.now)) e),
-      omega arith,
-    )
+    sym c.loop-left.invariant
+    ∙ elim c.if-left-lt1.branch [
+      | in_default w ↦ digits_done c.loop-left.n c.loop-left.left.now w.in_default.len_below
+      | in_default-2 w ↦ digits_end c.loop-left.n c.loop-left.left.now w.in_default.len_at_least (inl (omega arith))
+      | in_default-3 w ↦ digits_end c.loop-left.n c.loop-left.left.now w.in_default.len_at_least (inr (omega arith, omega arith))
+    ]

@@ -1,6 +1,9 @@
-use Rattle.std.proofs.Common.{◌≡◌, false, drop, vec_items}
+use Rattle.std.proofs.Common.{◌≡◌, false, length}
 use Rattle.text.specs.Lines.{letters_in}
 use Rattle.text.proofs.reader.letters.Given as goal
 
-abbrev pub invariant-loop-i : goal.invariant-loop-i
-invariant-loop-i l = letters_in l.escaped (vec_items l.text) (drop l.i l.line) ≡ letters_in false (vec_items l.initial.text) (drop l.initial.i l.line)
+abbrev pub invariant-loop-left : goal.invariant-loop-left
+invariant-loop-left l = letters_in l.escaped l.text.items l.left ≡ letters_in false l.initial.text.items l.line
+
+abbrev pub decreases-loop-left : goal.decreases-loop-left
+decreases-loop-left l = length l.left

@@ -1,6 +1,6 @@
-use Rattle.std.proofs.Common.{◌≡◌, ◌-◌, ◌≤◌, [], length, take, drop}
+use Rattle.std.proofs.Common.{◌≡◌, ◌-◌, [], length, take}
 use Rattle.text.specs.Lines.{numbers_in}
 use Rattle.text.proofs.reader.numbers.Given as goal
 
-abbrev pub invariant-loop-j : goal.invariant-loop-j
-invariant-loop-j l = (numbers_in (l.count - l.j) (take l.j l.all) (drop l.at l.line) ≡ numbers_in l.count [] (drop l.initial.at l.line)) × (l.at ≤ length l.line) × (length l.all ≡ 4)
+abbrev pub invariant-loop-n : goal.invariant-loop-n
+invariant-loop-n l = numbers_in (length l.initial.all - l.n-index) (take l.n-index l.all) l.left ≡ numbers_in (length l.initial.all) [] l.line
