@@ -1,11 +1,9 @@
 -- What is appended, step by step.
-use Rattle.std.proofs.Common.{◌≡◌, ℕ, ◌+◌, ◌-◌, ◌<◌, ◌≤◌, true, false, eqb, List, [], ◌∷◌, ◌++◌, map, length, get_or, drop, codes, decimal, sym, ap, ◌∙◌, arith}
+use Rattle.std.proofs.Common.{◌≡◌, ℕ, ◌+◌, ◌-◌, ◌<◌, ◌≤◌, true, false, eqb, List, [], ◌∷◌, ◌++◌, length, get_or, drop, codes, decimal, sym, ap, ◌∙◌}
 use Rattle.std.proofs.lemmas.Bool.{eq-eqb, ne_eqb}
 use Rattle.model.proofs.Picks.{pick_true, pick_false}
-use Rattle.std.proofs.lemmas.List.{append_assoc, append-nil, drop_more, drop_all, get_or-map, get_or_past, length-map, nil_from_length}
+use Rattle.std.proofs.lemmas.List.{append_assoc, append-nil, drop_more, drop_all, nil_from_length}
 use Rattle.model.specs.Paper.{pick, Cell, Change}
-use Rattle.model.specs.Values.{change_of}
-use Rattle.model.specs.declared.Change as code_change
 use Rattle.printing.specs.declared.reading.Cell as code
 use Rattle.printing.specs.Values.{cell_of, cells_of}
 use Rattle.markup.specs.Plain.{escaped}
@@ -76,26 +74,11 @@ module _ (cs : List Change) (x y : Cell) where
     pub between_new : alike x y ≡ false → closed x.put_in x.struck ++ opened cs y ≡ between cs x y
     between_new e = sym (between_same ∙ pick_false (alike x y) _ _ e)
 
--- the author of the change that a mark names
-module _ (cs : List code_change.Change) (m : ℕ) (d : code_change.Change) where
-  pub author_there : m - 1 < length cs → (get_or cs (m - 1) d).author ≡ author_by (map change_of cs) m
-  author_there h = sym (ap (λ (c : Change). c.author) (get_or-map change_of cs (m - 1) d (record { author = 0; became = 0 }) h))
-
-  pub author_past : length cs ≤ m - 1 → 0 ≡ author_by (map change_of cs) m
-  author_past h =
-      let l : length (map change_of cs) ≤ m - 1 = omega (arith, length-map cs change_of) in
-      sym (ap (λ (c : Change). c.author) (get_or_past (map change_of cs) (m - 1) (record { author = 0; became = 0 }) l))
-
 -- all cells
 pub no_cells : (out : List ℕ) (cs : List Change) (xs : List code.Cell) → length xs ≡ 0 → out ≡ out ++ marked cs (cells_of xs)
 no_cells out cs xs h = marked_none out cs ∙ ap (λ (ys : List code.Cell). out ++ marked cs (cells_of ys)) (sym (nil_from_length xs h))
 
-pub some_cells : (cs : List Change) (xs : List code.Cell) (d : code.Cell) → 0 < length xs →
-    codes "<p>" ++ (opened cs (cell_of (get_or xs 0 d)) ++ (escaped (get_or xs 0 d).letter ++ following cs (cell_of (get_or xs 0 d)) (cells_of (drop 1 xs)))) ≡ marked cs (cells_of xs)
+pub some_cells : (cs : List Change) (xs more : List code.Cell) (x : code.Cell) → xs ≡ x ∷ more →
+    codes "<p>" ++ (opened cs (cell_of x) ++ (escaped x.letter ++ following cs (cell_of x) (cells_of more))) ≡ marked cs (cells_of xs)
 unfolding marked
-some_cells cs xs d h = ap (λ (ys : List code.Cell). marked cs (cells_of ys)) (sym (drop_more xs 0 d h))
-
--- a letter that is no markup is written as it is
-pub escaped_self : (l : ℕ) → (l ≡ 60 → ⊥) → (l ≡ 62 → ⊥) → (l ≡ 38 → ⊥) → (l ≡ 34 → ⊥) → l ∷ [] ≡ escaped l
-escaped_self l a b c d =
-    sym (pick_false (eqb l 60) _ _ (ne_eqb l 60 a) ∙ (pick_false (eqb l 62) _ _ (ne_eqb l 62 b) ∙ (pick_false (eqb l 38) _ _ (ne_eqb l 38 c) ∙ pick_false (eqb l 34) _ _ (ne_eqb l 34 d))))
+some_cells cs xs more x e = ap (λ (ys : List code.Cell). marked cs (cells_of ys)) (sym e)

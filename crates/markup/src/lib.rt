@@ -9,8 +9,9 @@ ghost use Rattle.model.specs.Values.{change_of};
 ghost use Rattle.printing.specs.Values.{cell_of, cells_of};
 
 use model::Change;
-use printing::{Cell, push_number};
+use printing::Cell;
 use std::alloc::AllocError;
+use text::push_number;
 
 // The letter that ends a paragraph.
 const END: u8 = 10;
@@ -19,31 +20,20 @@ const END: u8 = 10;
 pub fn push_letter(out: &mut Vec<u8>, letter: u8) -> Result<(), AllocError>
     ensures { OnOk result (out.new.items ≡ out.old.items ++ escaped letter) }
 {
-    if letter == b'<' {
-        out.extend_from_slice(b"&lt;")?;
-        return Ok(());
+    match letter {
+        b'<' => out.extend_from_slice(b"&lt;"),
+        b'>' => out.extend_from_slice(b"&gt;"),
+        b'&' => out.extend_from_slice(b"&amp;"),
+        b'"' => out.extend_from_slice(b"&quot;"),
+        _ => Ok(out.push(letter)?),
     }
-    if letter == b'>' {
-        out.extend_from_slice(b"&gt;")?;
-        return Ok(());
-    }
-    if letter == b'&' {
-        out.extend_from_slice(b"&amp;")?;
-        return Ok(());
-    }
-    if letter == b'"' {
-        out.extend_from_slice(b"&quot;")?;
-        return Ok(());
-    }
-    out.push(letter)?;
-    Ok(())
 }
 
 // An author's colour: authors that follow one another are far apart.
-fn hue(author: u32) -> usize
+fn hue(author: u32) -> u64
     ensures { result ≡ hue_of author }
 {
-    author as usize % 360 * 137 % 360
+    u64::from(author) % 360 * 137 % 360
 }
 
 pub fn push_colour(out: &mut Vec<u8>, author: u32) -> Result<(), AllocError>
@@ -60,12 +50,9 @@ fn author_of(changes: &[Change], mark: u32) -> u32
     requires { 0 < mark }
     ensures { result ≡ author_by (map change_of changes.now) mark }
 {
-    let k = mark as usize - 1;
-    if k < changes.len() {
-        changes[k].author
-    } else {
-        0
-    }
+    changes
+        .get(mark as usize - 1)
+        .map_or(0, |change| change.author)
 }
 
 // A sentence for a mark, and nothing where there is none.
@@ -76,7 +63,7 @@ fn push_said(out: &mut Vec<u8>, words: &[u8], mark: u32) -> Result<(), AllocErro
         return Ok(());
     }
     out.extend_from_slice(words)?;
-    push_number(out, mark as usize - 1)?;
+    push_number(out, mark as u64 - 1)?;
     out.extend_from_slice(b". ")?;
     Ok(())
 }
@@ -85,7 +72,7 @@ fn push_said(out: &mut Vec<u8>, words: &[u8], mark: u32) -> Result<(), AllocErro
 fn is_bare(x: Cell) -> bool
     ensures { result ≡ bare x.put_in x.struck }
 {
-    (x.put_in == 0) & (x.struck == 0)
+    x.put_in == 0 && x.struck == 0
 }
 
 // What is shown of a letter's marks where one points at it.
@@ -106,7 +93,7 @@ fn push_span(out: &mut Vec<u8>, x: Cell) -> Result<(), AllocError>
     ensures { OnOk result (out.new.items ≡ out.old.items ++ span (cell_of x)) }
 {
     out.extend_from_slice(b"<span class='s")?;
-    push_number(out, x.style as usize)?;
+    push_number(out, x.style as u64)?;
     out.extend_from_slice(b"'")?;
     push_title(out, x)?;
     out.extend_from_slice(b">")?;
@@ -126,7 +113,7 @@ fn push_mark(
         return Ok(());
     }
     out.extend_from_slice(start)?;
-    push_number(out, mark as usize - 1)?;
+    push_number(out, mark as u64 - 1)?;
     out.extend_from_slice(b"'")?;
     push_colour(out, author_of(changes, mark))?;
     out.extend_from_slice(b">")?;
@@ -147,26 +134,19 @@ fn push_open(out: &mut Vec<u8>, changes: &[Change], x: Cell) -> Result<(), Alloc
 fn close_of(x: Cell) -> &'static [u8]
     ensures { result.now ≡ closed x.put_in x.struck }
 {
-    if x.put_in == 0 {
-        if x.struck == 0 {
-            b"</span>"
-        } else {
-            b"</del></span>"
-        }
-    } else {
-        if x.struck == 0 {
-            b"</ins></span>"
-        } else {
-            b"</del></ins></span>"
-        }
+    match (x.put_in, x.struck) {
+        (0, 0) => b"</span>",
+        (0, _) => b"</del></span>",
+        (_, 0) => b"</ins></span>",
+        _ => b"</del></ins></span>",
     }
 }
 
-// The same style and the same marks.
+// The same style and the same marks: the letter, which a derived equality would compare too, may differ.
 fn alike(x: Cell, y: Cell) -> bool
     ensures { result ≡ look_alike (cell_of x) (cell_of y) }
 {
-    (x.style == y.style) & ((x.put_in == y.put_in) & (x.struck == y.struck))
+    x.style == y.style && x.put_in == y.put_in && x.struck == y.struck
 }
 
 // What stands between two letters.
@@ -211,26 +191,22 @@ fn push_following(
 pub fn push_cells(out: &mut Vec<u8>, changes: &[Change], cells: &[Cell]) -> Result<(), AllocError>
     ensures { OnOk result (out.new.items ≡ out.old.items ++ marked (map change_of changes.now) (cells_of cells.now)) }
 {
-    if cells.len() == 0 {
+    let Some((first, more)) = cells.split_first() else {
         return Ok(());
-    }
+    };
     out.extend_from_slice(b"<p>")?;
-    push_open(out, changes, cells[0])?;
-    push_letter(out, cells[0].letter)?;
-    push_following(out, changes, cells[0], &cells[1..])?;
+    push_open(out, changes, *first)?;
+    push_letter(out, first.letter)?;
+    push_following(out, changes, *first, more)?;
     Ok(())
 }
 
 // Whatever letters are written, a reader of the page sees just these.
-pub fn reads_letters() -> u8
+pub fn reads_letters()
     ensures { ReadsLetters }
-{
-    0
-}
+{}
 
 // A reader of marked cells sees their letters, and no letter becomes markup.
-pub fn reads_cells() -> u8
+pub fn reads_cells()
     ensures { ReadsCells }
-{
-    0
-}
+{}

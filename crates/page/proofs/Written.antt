@@ -1,26 +1,30 @@
 -- What is appended to the page, step by step.
-use Rattle.std.proofs.Common.{◌≡◌, ℕ, suc, ◌+◌, ◌-◌, ◌<◌, ◌≤◌, true, false, ◌||◌, eqb, List, [], ◌++◌, length, get_or, drop, sym, ap, ◌∙◌, arith}
+use Rattle.std.proofs.Common.{◌≡◌, ℕ, suc, ◌+◌, ◌-◌, ◌<◌, ◌≤◌, true, false, ◌||◌, eqb, Result, Ok, Err, Vec, vec_items, List, [], ◌∷◌, ◌++◌, map, length, get_or, drop, sym, refl, ap, ◌∙◌, arith}
 use Rattle.std.proofs.lemmas.List.{append_assoc, append-nil, drop_more, drop_all}
-use Rattle.std.proofs.lemmas.Bool.{eq-eqb, ne_eqb}
 use Rattle.model.specs.Paper.{pick, Change}
 use Rattle.model.specs.declared.Change as code
-use Rattle.page.specs.Page.{has_author, author_item, authors_from, change_row, change_rows}
+use Rattle.model.specs.Values.{change_of}
+use Rattle.std.specs.Prelude.{IfOk}
+use Rattle.std.specs.List.{list_any}
+use Rattle.printing.specs.declared.reading.Cell.{Cell}
+use Rattle.printing.specs.Values.{cell_of, cells_of}
+use Rattle.page.specs.Page.{bare, has_author, author_item, authors_from, change_row, change_rows}
 
--- whether an author made a change, from change to change
-module _ (cs : List Change) (a i : ℕ) (d : Change) (h : i < length cs) where
-  has_at : has_author (drop i cs) a ≡ (eqb (get_or cs i d).author a || has_author (drop (i + 1) cs) a)
-  unfolding has_author
-  has_at = ap (λ ys. has_author ys a) (drop_more cs i d h)
-
-  pub has_found : (get_or cs i d).author ≡ a → has_author (drop i cs) a ≡ true
-  has_found e = has_at ∙ ap (λ b. b || has_author (drop (i + 1) cs) a) (eq-eqb (get_or cs i d).author a e)
-
-  pub has_more : ((get_or cs i d).author ≡ a → ⊥) → has_author (drop i cs) a ≡ has_author (drop (i + 1) cs) a
-  has_more e = has_at ∙ ap (λ b. b || has_author (drop (i + 1) cs) a) (ne_eqb (get_or cs i d).author a e)
-
-pub has_none : (cs : List Change) (a i : ℕ) → length cs ≤ i → has_author (drop i cs) a ≡ false
+-- whether an author made a change, as `any` finds it
+pub has_any : (cs : List code.Change) (a : ℕ) → list_any (λ c. eqb c.author a) cs ≡ has_author (map change_of cs) a
 unfolding has_author
-has_none cs a i h = ap (λ ys. has_author ys a) (drop_all i cs h)
+has_any [] a = refl
+has_any (c ∷ cs) a = ap (λ b. eqb c.author a || b) (has_any cs a)
+
+-- the cells without their marks, as `map` makes them
+twice : (xs : List Cell) → map (λ x. bare (cell_of x)) xs ≡ map bare (cells_of xs)
+twice [] = refl
+twice (x ∷ xs) = ap (λ ys. bare (cell_of x) ∷ ys) (twice xs)
+
+pub bared : {Z E : Type 0} (xs : List Cell) (r : Result (Vec Cell Z) E) → IfOk r (λ v. map cell_of (vec_items v) ≡ map (λ x. bare (cell_of x)) xs)
+    → IfOk r (λ v. cells_of (vec_items v) ≡ map bare (cells_of xs))
+bared xs (Ok v) e = e ∙ twice xs
+bared xs (Err e) t = t
 
 -- author after author; n is how many there can be
 module _ (out : List ℕ) (cs : List Change) (n a : ℕ) where

@@ -1,15 +1,16 @@
 // The page of a paper: everything with its marks, the paper as if all open changes were accepted and as if all were rejected, and the changes.
 #![tactic(auto)]
 
-ghost use Rattle.model.specs.Values.{change_of};
+ghost use Rattle.model.specs.Values.{change_of, way_number};
 ghost use Rattle.page.specs.Page.{Paged, as_if, author_item, authors_from, bare as bare_cell, became as became_shown, change_row, change_rows, foot, has_author, head, key, legend, page_of, page_with, part, parts, table, table_head};
-ghost use Rattle.printing.specs.Values.{cells_of, number_of, paper_of};
+ghost use Rattle.printing.specs.Values.{cells_of, paper_of};
 ghost use Rattle.std.specs.Prelude.{◌≡◌, ◌++◌, map, IfOk, OnOk};
 
 use markup::{push_cells, push_colour};
-use model::Change;
-use printing::{Cell, Paper, Reading, Way, push_number, read_paper, refuse, view};
+use model::{Change, Way};
+use printing::{Cell, Paper, ReadError, read_paper, refuse, view};
 use std::alloc::{AllocError, Global};
+use text::push_number;
 
 // What every page begins with.
 fn head_of() -> &'static [u8]
@@ -71,12 +72,7 @@ fn foot_of() -> &'static [u8]
 fn has(changes: &[Change], author: u32) -> bool
     ensures { result ≡ has_author (map change_of changes.now) author }
 {
-    for c in changes {
-        if c.author == author {
-            return true;
-        }
-    }
-    false
+    changes.iter().any(|change| change.author == author)
 }
 
 fn push_author(out: &mut Vec<u8>, author: u32) -> Result<(), AllocError>
@@ -85,7 +81,7 @@ fn push_author(out: &mut Vec<u8>, author: u32) -> Result<(), AllocError>
     out.extend_from_slice(b"<li")?;
     push_colour(out, author)?;
     out.extend_from_slice(b">Author ")?;
-    push_number(out, author as usize)?;
+    push_number(out, author as u64)?;
     out.extend_from_slice(b"</li>")?;
     Ok(())
 }
@@ -133,26 +129,26 @@ fn push_part(
 fn bare(heap: Global, cells: &[Cell]) -> Result<Vec<Cell>, AllocError>
     ensures { IfOk result (λ v. cells_of v.items ≡ map bare_cell (cells_of cells.now)) }
 {
-    let mut out = Vec::new(heap);
-    for x in cells {
-        out.push(Cell {
+    cells
+        .iter()
+        .map(|x| Cell {
             letter: x.letter,
             style: x.style,
             put_in: 0,
             struck: 0,
-        })?;
-    }
-    Ok(out)
+        })
+        .collect(heap)
 }
 
 // The cells as if all open changes were accepted, or all rejected.
 fn settled(heap: Global, cells: &[Cell], way: Way) -> Result<Vec<Cell>, AllocError>
-    ensures { IfOk result (λ v. cells_of v.items ≡ as_if (number_of way) (cells_of cells.now)) }
+    ensures { IfOk result (λ v. cells_of v.items ≡ as_if (way_number way) (cells_of cells.now)) }
 {
     let seen = view(heap, cells, way)?;
-    Ok(bare(heap, seen.as_slice())?)
+    bare(heap, seen.as_slice())
 }
 
+// By its number, as a change has it: a `Verdict` is of a decided change only.
 fn became_of(change: Change) -> &'static [u8]
     ensures { result.now ≡ became_shown change.became }
 {
@@ -168,11 +164,11 @@ fn push_change(out: &mut Vec<u8>, number: usize, change: Change) -> Result<(), A
     ensures { OnOk result (out.new.items ≡ out.old.items ++ change_row number (change_of change)) }
 {
     out.extend_from_slice(b"<tr><td>")?;
-    push_number(out, number)?;
+    push_number(out, number as u64)?;
     out.extend_from_slice(b"</td><td")?;
     push_colour(out, change.author)?;
     out.extend_from_slice(b">")?;
-    push_number(out, change.author as usize)?;
+    push_number(out, change.author as u64)?;
     out.extend_from_slice(b"</td><td>")?;
     out.extend_from_slice(became_of(change))?;
     out.extend_from_slice(b"</td></tr>\n")?;
@@ -182,8 +178,8 @@ fn push_change(out: &mut Vec<u8>, number: usize, change: Change) -> Result<(), A
 fn push_changes(out: &mut Vec<u8>, changes: &[Change]) -> Result<(), AllocError>
     ensures { OnOk result (out.new.items ≡ out.old.items ++ change_rows 0 (map change_of changes.now)) }
 {
-    for i in 0..changes.len() {
-        push_change(out, i, changes[i])?;
+    for (number, change) in changes.iter().enumerate() {
+        push_change(out, number, *change)?;
     }
     Ok(())
 }
@@ -252,9 +248,10 @@ pub fn write_page(heap: Global, text: &[u8]) -> Result<Vec<u8>, AllocError>
     ensures { IfOk result (λ v. Paged text.now v.items) }
 {
     let mut out = Vec::new(heap);
-    match read_paper(heap, text)? {
-        Reading::Whole(paper) => push_paper(&mut out, heap, &paper)?,
-        Reading::Ceases(place) => refuse(&mut out, place)?,
+    match read_paper(heap, text) {
+        Ok(paper) => push_paper(&mut out, heap, &paper)?,
+        Err(ReadError::Ceases(place)) => refuse(&mut out, place)?,
+        Err(ReadError::Memory) => return Err(AllocError),
     }
     Ok(out)
 }
