@@ -69,12 +69,7 @@ mod tests {
     }
 
     // Takes `m` cells out of the store and out of the row. Returns how many cells there are then.
-    fn remove(
-        text: &mut TextMut,
-        row: &mut [Cell],
-        place: usize,
-        m: usize,
-    ) -> Result<usize, Fail>
+    fn remove(text: &mut TextMut, row: &mut [Cell], place: usize, m: usize) -> Result<usize, Fail>
         requires { text.old.slots ≡ 5 }
         ensures { text.new.slots ≡ 5 }
     {
@@ -88,13 +83,7 @@ mod tests {
     }
 
     // Writes one cell of the store and of the row.
-    fn overwrite(
-        rt: &impl Abort,
-        text: &mut TextMut,
-        row: &mut [Cell],
-        place: usize,
-        cell: Cell,
-    )
+    fn overwrite(rt: &impl Abort, text: &mut TextMut, row: &mut [Cell], place: usize, cell: Cell)
         requires { text.old.slots ≡ 5 }
         ensures { text.new.slots ≡ 5 }
     {
