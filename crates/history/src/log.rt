@@ -1,5 +1,5 @@
 // The log of what can be undone and done again, in lent words: a head of sixteen words, then the words of the entries, the oldest first.
-// Functions over the words, and no struct that keeps `Keeps`: `behind` and `ahead` ask for sixteen words alone and `push` for room, not for an entry.
+// Functions over the words and no struct with `Keeps` in it: `push` asks for room and not for an entry, and `behind`, `ahead` and `clear` for no log.
 ghost use Rattle.std.specs.Prelude.{◌≡◌, ℕ, ◌+◌, ◌-◌, ◌*◌, ◌<◌, ◌≤◌, List, [], ◌++◌, length, drop, replicate, slice_index};
 ghost use Rattle.history.specs.Entry.{Entry};
 ghost use Rattle.history.specs.Log.{Log, Keeps, SomeLog, StepsBack, StepsAhead, Inside, Drops, ForgetsOldest, Forgets, Stays, Room, MakesRoom, CanPush, Pushes, WrittenKeeps, WrittenKeepsRoom, RoomPushes, end_of};

@@ -98,15 +98,6 @@ pub can_take_back : (u : List ℕ) (a : ℕ) (g : Head) (xs : List Cell) (s : �
 can_take_back u a g xs s h is =
     subst (λ f. CanTakeBack f.kind f (drop (a + 7) u) xs s) (sym is) (by_need u a h.entry xs h.changes s h.stands h.inside h.can h.fits)
 
--- an entry counts at least one
-pub counts_one : (e : Entry) (g : Head) → g ≡ head_of e → 1 ≤ g.count
-unfolding head_of
-counts_one (was_put w i s ls) g e = omega (arith, ap (λ f. f.count) e)
-counts_one (was_struck w i k old) g e = omega (arith, ap (λ f. f.count) e)
-counts_one (was_accepted c ms) g e = omega (arith, ap (λ f. f.count) e)
-counts_one (was_rejected c ms) g e = omega (arith, ap (λ f. f.count) e)
-counts_one (was_styled i s old) g e = omega (arith, ap (λ f. f.count) e)
-
 -- a strike and a change of style put old cells back
 pub run_needs : (k : Kind) (g : Head) (ws : List ℕ) (xs : List Cell) (s : ℕ) → (k ≡ Strike) ⊎ (k ≡ Style) → CanTakeBack k g ws xs s
     → CanRun g.place g.standing (g.count - 1) ws xs s

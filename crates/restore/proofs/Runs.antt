@@ -5,7 +5,6 @@ use Rattle.std.proofs.lemmas.List.{length-append, length-take-le, length-drop, t
 use Rattle.model.specs.Paper.{Cell}
 use Rattle.slots.specs.Cells.{all_cells, cell_at, cells_at}
 use Rattle.slots.proofs.Words.{all_part, cells_split}
-use Rattle.history.specs.Entry.{run_back}
 use Rattle.history.specs.Words.{cells_read}
 
 -- cells by their number, and cells at the beginning of words
@@ -70,15 +69,3 @@ put_more t t' old new i at l e is =
     let x = append_assoc (take i t) old (new ++ drop i t) in
     let y = append_assoc old new (drop i t) in
     cc
-
--- cells taken out, and others put in there
-pub run_put : (t t' old : List Cell) (i k : ℕ) → i ≤ length t → t' ≡ take i t ++ drop (i + k) t → take i t' ++ (old ++ drop i t') ≡ run_back i k old t
-unfolding run_back
-run_put t t' old i k l e =
-    let m = length-take-le i t l in
-    let a = take_at (take i t) (drop (i + k) t) i m in
-    let b = drop_at (take i t) (drop (i + k) t) i m in
-    cc
-
-pub length_taken_out : (t : List Cell) (i k : ℕ) → i + k ≤ length t → length (take i t ++ drop (i + k) t) + k ≡ length t
-length_taken_out t i k l = let m : i ≤ length t = omega arith in simp (length-append, length-take-le i t m, length-drop) (omega arith)
