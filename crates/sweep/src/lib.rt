@@ -1,7 +1,7 @@
 // Strike, accept, reject and style over the cells of a text, said once: each is a sweep, which goes over cells in order, drops some and changes others.
 #![tactic(auto)]
 
-ghost use Rattle.std.specs.Prelude.{◌≡◌, ℕ, suc, ◌+◌, ◌*◌, ◌<◌, ◌≤◌, false, ◌||◌, List, ◌++◌, length, take, drop, ◌==◌, nat_eq};
+ghost use Rattle.std.specs.Prelude.{◌≡◌, ℕ, suc, ◌+◌, ◌*◌, ◌/◌, ◌<◌, ◌≤◌, false, ◌||◌, List, ◌++◌, length, take, drop, ◌==◌, nat_eq};
 ghost use Rattle.changes.specs.Rows.{changes_in};
 ghost use Rattle.model.specs.Paper.{Change, author_of, pick, touched as touches};
 ghost use Rattle.model.specs.Values.{cell_of};
@@ -9,7 +9,7 @@ ghost use Rattle.pieces.specs.Edits.{Changed, Filled, Resized};
 ghost use Rattle.pieces.specs.Marks.{Lacks};
 ghost use Rattle.pieces.specs.Store.{Order, Store, piece, slot, used};
 ghost use Rattle.pieces.specs.Text.{cells_in, cells_of_mut, Rewrites};
-ghost use Rattle.slots.specs.Cells.{Kept, cell_at, cells_at};
+ghost use Rattle.slots.specs.Cells.{Kept, all_cells, cell_at, cells_at};
 ghost use Rattle.sweep.specs.Sweep.{changed as afterwards, fate as fate_of, goes as is_gone, left_of, Noted, OneMeaning, swept, swept_run, SweptPiece};
 ghost use Rattle.std.specs.List.{AllByRecursion};
 ghost use Rattle.tree.specs.Tree.{Sums};
@@ -104,6 +104,7 @@ fn fate(cell: Cell, row: &Row, action: Action) -> Option<Cell>
 }
 
 // Writes what becomes of cell `i` behind the first `stay` cells, all counted from number `at` on. Returns how many there are now.
+// `at` stands beside the words, here and below, as the cells behind those that are swept are moved in the same words.
 fn sweep_cell(c: &mut [u32], row: &Row, at: usize, i: usize, stay: usize, action: Action) -> usize
     requires room { 4 * (at + i) + 4 ≤ length c.old }
     requires behind { stay ≤ i }
@@ -128,43 +129,28 @@ fn sweep_cells(c: &mut [u32], row: &Row, at: usize, n: usize, action: Action) ->
     ensures kept { Kept c.old c.new at n }
 {
     let mut stay = 0;
+    // An index, as the cells that stay are written over the lent words that are read.
     for i in 0..n {
         stay = sweep_cell(c, row, at, i, stay, action);
     }
     stay
 }
 
-// Sweeps `n` cells in the slot of a piece, from the spot on, and moves those behind them down. Returns how many of the `n` are left.
-fn sweep_slot(
-    c: &mut [u32],
-    p: &[u32],
-    s: usize,
-    row: &Row,
-    spot: Spot,
-    n: usize,
-    action: Action,
-) -> usize
-    requires order { Order p.now s }
-    requires room { 4096 * s ≤ length c.old }
-    requires here { spot.piece < s }
-    requires within { spot.offset + n ≤ used p.now spot.piece }
-    ensures filled { Filled c.old c.new p.now spot.piece (swept_run action (changes_in row.now) (piece c.old p.now spot.piece) spot.offset n) }
-    ensures left { result ≡ length (swept action (changes_in row.now) (take n (drop spot.offset (piece c.old p.now spot.piece)))) }
+// Sweeps the `n` cells from number `at` on, and moves the `behind` cells that follow them down. Returns how many of the `n` are left.
+fn sweep_slot(c: &mut [u32], row: &Row, at: usize, n: usize, behind: usize, action: Action) -> usize
+    requires { 4 * (at + n + behind) ≤ length c.old }
     ensures few { result ≤ n }
+    ensures cells { cells_at c.new at result ≡ swept action (changes_in row.now) (cells_at c.old at n) }
+    ensures moved { cells_at c.new (at + result) behind ≡ cells_at c.old (at + n) behind }
+    ensures kept { Kept c.old c.new at (n + behind) }
 {
-    let at = pieces::number_of(p, s, spot.piece, spot.offset);
     let left = sweep_cells(c, row, at, n, action);
-    slots::copy(
-        c,
-        at + n,
-        at + left,
-        pieces::used(p, spot.piece) - (spot.offset + n),
-    );
+    slots::copy(c, at + n, at + left, behind);
     left
 }
 
 // Piece `k` gets the length `n`, and its set of marks the one that the action writes.
-fn resize(p: &mut [u32], s: usize, k: usize, n: usize, action: Action)
+fn shrink(p: &mut [u32], s: usize, k: usize, n: usize, action: Action)
     requires order { Order p.old s }
     requires here { k < s }
     requires small { n ≤ 1024 }
@@ -202,9 +188,10 @@ fn sweep_piece(
     ensures left { result ≡ length (swept action (changes_in row.now) (take n (drop spot.offset (piece c.old p.old spot.piece)))) }
     ensures few { result ≤ n }
 {
-    let left = sweep_slot(c, p, s, row, spot, n, action);
-    let has = pieces::used(p, spot.piece) - n + left;
-    resize(p, s, spot.piece, has, action);
+    let at = pieces::number_of(p, s, spot.piece, spot.offset);
+    let has = pieces::used(p, spot.piece);
+    let left = sweep_slot(c, row, at, n, has - (spot.offset + n), action);
+    shrink(p, s, spot.piece, has - n + left, action);
     left
 }
 
@@ -215,7 +202,7 @@ pub fn sweep_run(text: &mut TextMut, row: &Row, place: usize, n: usize, action: 
 {
     let mut next = place;
     let mut left = n;
-    // A turn takes what one piece has, so that no range counts the turns.
+    // Not a `for`, as only a turn itself shows how many cells it takes.
     while left > 0 {
         let lent = text.text();
         let spot = lent.locate(next);
@@ -275,6 +262,7 @@ fn sweep_whole(c: &mut [u32], p: &mut [u32], s: usize, row: &Row, k: usize, acti
 pub fn sweep_all(text: &mut TextMut, row: &Row, action: Action)
     ensures { Rewrites text.old text.new (swept action (changes_in row.now) (cells_of_mut text.old)) }
 {
+    // An index, as the order of the slots is lent memory.
     for k in 0..text.slots {
         sweep_whole(text.cells, text.tables, text.slots, row, k, action);
     }
@@ -287,15 +275,15 @@ pub fn is_touched(cell: Cell, change: u32) -> bool
     is_mark(cell.put_in, change) || is_mark(cell.struck, change)
 }
 
-// How many of the `n` cells from number `at` on have the mark of the change.
-fn touched_cells(c: &[u32], at: usize, n: usize, change: u32) -> usize
-    requires { 4 * (at + n) ≤ length c.now }
-    ensures count { result ≡ touches (cells_at c.now at n) change }
-    ensures few { result ≤ n }
+// How many of the cells whose words `cells` has have the mark of the change.
+fn touched_cells(cells: &[u32], change: u32) -> usize
+    ensures count { result ≡ touches (all_cells cells.now) change }
+    ensures few { result ≤ length cells.now / 4 }
 {
     let mut count = 0;
-    for i in 0..n {
-        if is_touched(slots::read(c, at + i), change) {
+    // An index, as cells are read from lent words.
+    for i in 0..cells.len() / 4 {
+        if is_touched(slots::read(cells, i), change) {
             count += 1;
         }
     }
@@ -311,7 +299,8 @@ fn touched_piece(text: &Text, k: usize, change: u32) -> usize
     if !may_be_in(text, k, change) {
         return 0;
     }
-    touched_cells(text.cells, text.number_of(k, 0), text.used(k), change)
+    let cells = slots::part(text.cells, text.number_of(k, 0), text.used(k));
+    touched_cells(cells, change)
 }
 
 /// How many cells have the mark of the change.
@@ -319,6 +308,7 @@ pub fn touched(text: &Text, change: u32) -> u32
     ensures { result ≡ touches (cells_in text.now) change }
 {
     let mut count = 0;
+    // An index, as the order of the slots is lent memory.
     for k in 0..text.slots {
         count += touched_piece(text, k, change);
     }

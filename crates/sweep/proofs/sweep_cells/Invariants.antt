@@ -6,5 +6,8 @@ use Rattle.sweep.proofs.sweep_cells.Given as goal
 
 abbrev pub invariant-loop-i : goal.invariant-loop-i
 invariant-loop-i l =
-    (l.stay ≤ l.i) × (cells_at l.c l.at l.stay ≡ swept l.action (changes_in l.row) (cells_at l.initial.c l.at l.i))
-    × Kept l.initial.c l.c l.at l.i
+    record {
+      behind : l.stay ≤ l.i;
+      cells : cells_at l.c l.at l.stay ≡ swept l.action (changes_in l.row) (cells_at l.initial.c l.at l.i);
+      kept : Kept l.initial.c l.c l.at l.i;
+    }

@@ -5,6 +5,7 @@ use Rattle.pieces.proofs.Change.{replaced_here}
 use Rattle.pieces.proofs.Edit.{store_after}
 use Rattle.sweep.specs.Sweep.{swept}
 use Rattle.sweep.proofs.Sets.{marked_after}
+use Rattle.sweep.proofs.Steps.{left_here, swept_here}
 use Rattle.sweep.proofs.sweep_piece.Goals as goal
 
 pub returns : goal.returns
@@ -12,17 +13,21 @@ returns c =
     let old = c.args.c.now in
     let new = c.sweep_slot-left.new.c in
     let p = c.args.p.now in
-    let q = c.resize.new.p in
+    let q = c.shrink.new.p in
     let s = c.args.s in
     let k = c.args.spot.piece in
     let o = c.args.spot.offset in
+    let n = c.args.n in
+    let a = c.args.action in
     let order = c.requires.store.table.order in
+    let within = c.requires.within in
     let small = order.small k c.requires.here in
-    let e = c.sweep_slot-left.ensures in
+    let e = rw c.used-has.ensures at c.sweep_slot-left.ensures in
     let few = e.few in
     let cs = changes_in c.args.row.now in
-    let ys = swept c.args.action cs (take c.args.n (drop o (piece old p k))) in
-    let h = replaced_here old p new q s k o c.args.n _ ys order c.requires.here c.requires.within (omega arith) (omega arith) e.filled c.resize.ensures.resized in
-    let st = store_after old p new q s c.requires.store h.frame h.order c.resize.ensures.sums
-    (marked_after old p new q s k o c.args.n c.args.action cs order c.requires.here c.requires.store.marked c.resize.ensures.noted h) in
-    record { changed = h; store = st; left = e.left; few = few }
+    let left = left_here old new p k o n c.number_of-at.result c.sweep_slot-left.result a cs within small few c.number_of-at.ensures e.cells in
+    let filled = swept_here old new p k o n c.number_of-at.result c.sweep_slot-left.result a cs within small few c.number_of-at.ensures e.cells e.moved e.kept in
+    let h = replaced_here old p new q s k o n _ (swept a cs (take n (drop o (piece old p k)))) order c.requires.here within (omega arith) (omega arith) filled c.shrink.ensures.resized in
+    let st = store_after old p new q s c.requires.store h.frame h.order c.shrink.ensures.sums
+    (marked_after old p new q s k o n a cs order c.requires.here c.requires.store.marked c.shrink.ensures.noted h) in
+    record { changed = h; store = st; left = left; few = few }

@@ -1,20 +1,12 @@
-use Rattle.std.proofs.Common.{sym, refl, ◌∙◌}
+use Rattle.std.proofs.Common.{sym, ◌∙◌}
 use Rattle.changes.specs.Rows.{changes_in}
 use Rattle.pieces.specs.Store.{piece}
 use Rattle.pieces.proofs.Texts.{length_piece}
-use Rattle.pieces.proofs.Change.{frame_none, frame_both}
+use Rattle.pieces.proofs.Change.{frame_both}
 use Rattle.pieces.proofs.Edit.{beside_edited}
 use Rattle.sweep.proofs.Runs.{swept_run_all}
 use Rattle.sweep.proofs.Sets.{beside_piece}
 use Rattle.sweep.proofs.sweep_whole.Goals as goal
-
-pub returns-then-not-concerns : goal.returns-then-not-concerns
-returns-then-not-concerns c = record {
-  store = c.requires.store;
-  frame = frame_none c.args.c.now c.args.p.now c.args.s;
-  here = sym (c.concerns.ensures c.if-not-concerns.true (changes_in c.args.row.now));
-  others = λ j l ne. refl;
-}
 
 pub returns : goal.returns
 returns c =

@@ -9,4 +9,5 @@ returns-then-not-may_be_in-clause-count c =
 
 pub returns-clause-count : goal.returns-clause-count
 returns-clause-count c =
-    touched_here c.args.text.now.cells.now c.args.text.now.tables.now c.args.k c.args.change c.number_of.result c.used.result c.touched_cells.result c.number_of.ensures c.used.ensures c.touched_cells.ensures.count
+    touched_here c.args.text.now.cells.now c.args.text.now.tables.now c.part-cells.result.now c.args.k c.args.change c.number_of.result c.used.result c.touched_cells.result
+    c.number_of.ensures c.used.ensures c.part-cells.ensures.cells c.touched_cells.ensures.count

@@ -1,6 +1,6 @@
 use Rattle.std.proofs.Common.{arith}
 use Rattle.pieces.proofs.Sets.{sums_beside}
-use Rattle.sweep.proofs.resize.Goals as goal
+use Rattle.sweep.proofs.shrink.Goals as goal
 
 pub returns-then-mark-gt0-clause-sums : goal.returns-then-mark-gt0-clause-sums
 returns-then-mark-gt0-clause-sums c = sums_beside c.resize.new.p c.add_mark.new.p c.add_mark.ensures.grown.beside c.resize.ensures.sums
