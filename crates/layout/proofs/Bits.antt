@@ -36,9 +36,6 @@ pub up_to : (b : Bool) (n : ℕ) → pick b n 0 ≤ n
 up_to true n = omega arith
 up_to false n = omega arith
 
-pub ways_small : (x : Cell) (a b : ℕ) → a ≡ pick (eqb x.struck 0) 2 0 → b ≡ pick (eqb x.put_in 0) 4 0 → 1 + a + b < 8
-ways_small x a b e f = omega (arith, up_to (eqb x.struck 0) 2, up_to (eqb x.put_in 0) 4)
-
 -- a test as a number
 pub bit_of : (b : Bool) → bool_byte b ≡ pick b 1 0
 bit_of true = refl

@@ -27,7 +27,7 @@ pub fn ways(x: Cell) -> u32
     1 + accepted + rejected
 }
 
-// Which of the up to 32 cells of piece `k` from its cell `from` on are seen, as bits: bit i is that of cell from + i, and 0 past the end of the piece.
+// Which of the up to 32 cells of piece `k` from its cell `from` on are seen, as bits: bit i is that of cell from + i, and is not set past the end of the piece.
 pub fn seen_bits(text: &Text, k: usize, from: usize, way: Way) -> u32
     requires { k < text.now.slots }
     ensures { (i : ℕ) → i < 32 → result / 2 ^ i % 2 ≡ pick (nat_lt (from + i) (used text.now.tables.now k) && seen (way_number way) (slice_index_or (cells_in text.now) (before text.now.tables.now k + (from + i)) no_cell)) 1 0 }
