@@ -26,6 +26,7 @@ impl TryFrom<u32> for Slice {
 
     fn try_from(number: u32) -> Result<Self, UnknownSlice> {
         match number {
+            // the numbers that C knows the slices by
             0 => Ok(Slice::Cells),
             1 => Ok(Slice::Pieces),
             2 => Ok(Slice::Undo),
@@ -34,7 +35,7 @@ impl TryFrom<u32> for Slice {
     }
 }
 
-// How many words a slice has to have for a desk with these limits: 0 the cells, 1 the pieces, 2 what can be undone.
+// How many words a slice has to have for a desk with these limits: 0 the cells, 1 the pieces, 2 what can be undone; it is a number, as C passes it.
 #[unsafe(no_mangle)]
 pub extern "C" fn desk_words(which: u32, cells: u32, changes: u32, undos: u32) -> i64
     ensures { result ≡ words_told which cells changes undos }
@@ -58,7 +59,7 @@ pub extern "C" fn desk_words(which: u32, cells: u32, changes: u32, undos: u32) -
     }
 }
 
-// Opens a desk with an empty paper in lent memory, whatever that holds.
+// Opens a desk with an empty paper in lent memory, whatever that holds. C passes each slice apart.
 #[unsafe(no_mangle)]
 pub extern "C" fn desk_open(
     cells: &mut [u32],
@@ -82,6 +83,7 @@ pub extern "C" fn desk_open(
 }
 
 // Does a call at an open desk. Memory that is long enough for the limits in it has to be what desk_open left and only desk_call has changed since.
+// C passes each slice apart.
 #[unsafe(no_mangle)]
 pub extern "C" fn desk_call(
     cells: &mut [u32],
@@ -100,7 +102,7 @@ pub extern "C" fn desk_call(
     }
 }
 
-// Whether memory is as long as the limits in it ask for.
+// Whether memory is as long as the limits in it ask for. The slices stand apart, as C passes them.
 fn suffices(cells: &[u32], pieces: &[u32], undo: &[u32]) -> bool
     ensures { result ≡ long_enough cells.now pieces.now undo.now }
 {

@@ -1,6 +1,6 @@
 -- Letters and numbers in range. Assumes nothing.
-use Rattle.std.proofs.Common.{rules, ◌≡◌, ℕ, ◌+◌, ◌<◌, ◌≤◌, Bool, true, false, ◌&&◌, ◌||◌, eqb, leb, List, length, get_or, drop, Ok, Err, Result, IsOk, sym, refl, ap, ◌∙◌, arith, ltb-true}
-use Rattle.std.proofs.lemmas.List.{at_drop_more, at_drop_all}
+use Rattle.std.proofs.Common.{rules, ◌≡◌, ℕ, ◌<◌, Bool, true, false, ◌&&◌, ◌||◌, eqb, leb, List, [], ◌∷◌, Ok, Err, Result, IsOk, sym, refl, ap, ◌∙◌, arith, ltb-true}
+use Rattle.std.specs.List.{list_all}
 use Rattle.model.specs.Calls.{call_number, count, good_call, good_fields, good_letters}
 use Rattle.model.specs.Values.{NumbersWay, way_number}
 use Rattle.model.specs.declared.way.UnknownWay.{UnknownWay}
@@ -15,13 +15,11 @@ use Rattle.session.specs.Range.{in_range, is_show}
 abbrev pub good : ℕ → Bool
 good l = eqb l 10 || (leb 32 l && leb l 126)
 
-pub letters_more : (xs : List ℕ) (i : ℕ) → i < length xs → good_letters (drop i xs) ≡ (good (get_or xs i 0) && good_letters (drop (i + 1) xs))
+-- whether each letter is good, as `all` finds it
+pub all_letters : (ls : List ℕ) → list_all good ls ≡ good_letters ls
 unfolding good_letters
-letters_more xs i h = at_drop_more good_letters xs i 0 h
-
-pub letters_all : (xs : List ℕ) (i : ℕ) → length xs ≤ i → good_letters (drop i xs) ≡ true
-unfolding good_letters
-letters_all xs i h = at_drop_all good_letters xs i h
+all_letters [] = refl
+all_letters (l ∷ ls) = ap (λ (b : Bool). good l && b) (all_letters ls)
 
 -- the code's cases and the model's agree
 pub in_range_is : (c : Call) (ls : List ℕ) → in_range c ls ≡ good_fields (meaning c ls)

@@ -11,7 +11,7 @@ use changes::Row;
 use pieces::TextMut;
 use sweep::Action;
 
-/// Puts letters into the text, put in by change number `change`.
+/// Puts letters into the text, put in by change number `change`. (Of both slices, for the reason above.)
 pub fn insert(
     cells: &mut [u32],
     pieces: &mut [u32],
@@ -38,7 +38,7 @@ pub fn insert(
     text.put(place, letters, style, change);
 }
 
-/// A run of cells is swept.
+/// A run of cells is swept. (Of both slices, for the reason above.)
 pub fn sweep_run(cells: &mut [u32], pieces: &mut [u32], place: usize, n: usize, action: Action)
     requires held { Held cells.old pieces.old }
     requires within { place + n ≤ length (paper_of cells.old pieces.old).cells }
@@ -59,7 +59,7 @@ pub fn sweep_run(cells: &mut [u32], pieces: &mut [u32], place: usize, n: usize, 
     sweep::sweep_run(&mut text, &row, place, n, action);
 }
 
-/// All cells are swept.
+/// All cells are swept. (Of both slices, for the reason above.)
 pub fn sweep_all(cells: &mut [u32], pieces: &mut [u32], action: Action)
     requires { Held cells.old pieces.old }
     ensures { Wrote cells.old pieces.old cells.new pieces.new (with_cells (paper_of cells.old pieces.old) (swept action (paper_of cells.old pieces.old).changes (paper_of cells.old pieces.old).cells)) }

@@ -84,7 +84,7 @@ impl<'a> Desk<'a> {
             Verdict::Rejected => Action::Reject { change },
         };
         cells::sweep_all(self.cells, self.pieces, action);
-        self.judge(change, u32::from(verdict));
+        self.judge(change, verdict);
         Ok(Answer::Number(marked))
     }
 }

@@ -5,14 +5,14 @@ ghost use Rattle.session.specs.Memory.{Held, slots_of};
 
 use crate::Refusal;
 use changes::Row;
-use model::Change;
+use model::{Change, Verdict};
 use pieces::Text;
 
 /// How many words stand before the row of changes.
 pub const HEAD: usize = 16;
 
 /// The lent words: the cells are the slots of the text. The pieces begin with the limits and how many changes there are; the row of changes and the
-/// tables of the text follow.
+/// tables of the text follow. It has no `Debug`, which would print all of the memory.
 #[derive(Drop)]
 pub struct Desk<'a> {
     pub cells: &'a mut [u32],
@@ -42,7 +42,7 @@ impl<'a> Desk<'a> {
     ghost use Rattle.changes.specs.Row.{change_at};
     ghost use Rattle.model.specs.Calls.{with_became};
     ghost use Rattle.model.specs.Paper.{touched as touches};
-    ghost use Rattle.model.specs.Values.{change_of};
+    ghost use Rattle.model.specs.Values.{change_of, verdict_number};
     ghost use Rattle.session.specs.Acts.{allows, with_changes};
     ghost use Rattle.session.specs.Desks.{Writes, paper_in};
     ghost use Rattle.session.specs.Memory.{tables};
@@ -116,11 +116,12 @@ impl<'a> Desk<'a> {
     }
 
     /// What became of a change is noted.
-    pub fn judge(&mut self, change: u32, became: u32)
+    pub fn judge(&mut self, change: u32, verdict: Verdict)
         requires { change < slice_index self.old.pieces.now 3 }
-        ensures { Writes self.old self.new (with_changes (paper_in self.old) (with_became (paper_in self.old).changes change became)) }
+        ensures { Writes self.old self.new (with_changes (paper_in self.old) (with_became (paper_in self.old).changes change (verdict_number verdict))) }
     {
         let number = self.pieces[3] as usize;
+        let became = u32::from(verdict);
         changes::decide(&mut self.pieces[HEAD..], number, change as usize, became);
     }
 }

@@ -75,7 +75,7 @@ pub fn words_for(limits: Limits) -> Sizes
     }
 }
 
-// An empty desk in lent memory, or refusal 3.
+// An empty desk in lent memory, or refusal 3. The slices stand apart, as the C interface lends them.
 pub fn open(
     cells: &mut [u32],
     pieces: &mut [u32],
@@ -114,7 +114,7 @@ fn begin(pieces: &mut [u32], limits: Limits)
 }
 
 // Does the call that the bytes are, or refuses it, and writes the answer into the first bytes of `answer`; returns how many those are. Bytes that are no
-// call are refused by 1, a call out of range by 2; the other checks are the calls' own, in the order of the refusals' numbers.
+// call are refused by 1, a call out of range by 2; the other checks are the calls' own, in the order of the refusals' numbers. The slices stand apart, as the C interface lends them.
 pub fn call(
     cells: &mut [u32],
     pieces: &mut [u32],
@@ -134,7 +134,7 @@ pub fn call(
     }
 }
 
-// Does the call that the bytes are, or says why it is refused.
+// Does the call that the bytes are, or says why it is refused. It makes the desk of the slices that are lent.
 fn try_call(
     cells: &mut [u32],
     pieces: &mut [u32],

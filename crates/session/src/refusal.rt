@@ -28,6 +28,7 @@ pub enum Refusal {
 
 impl Refusal {
     /// The number by which a caller of the desk knows the reason. The checks run in the order of these numbers.
+    /// (A method: two of the reasons have one number, so that it alone does not stand for the refusal.)
     pub fn number(self) -> u32
         ensures is { result ≡ refusal_number self }
         ensures small { result ≤ 9 }

@@ -43,5 +43,5 @@ returns c =
       acted =
           rw c.touched-marked.ensures
           (decided c.args.self.now.cells.now c.args.self.now.pieces.now c.args.self.now.held k v (change_of c.in_ok-found.found) c.in_ok-found.ensures.0
-          c.in_ok-found.ensures.1 c.if-found-ne0.false (rw action at c.sweep_all.ensures) (rw c.from.ensures at c.judge.ensures.wrote));
+          c.in_ok-found.ensures.1 c.if-found-ne0.false (rw action at c.sweep_all.ensures) c.judge.ensures.wrote);
     }
