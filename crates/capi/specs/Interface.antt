@@ -1,13 +1,27 @@
 -- What the C interface returns, and what it does to lent memory. Definitions only: nothing is assumed.
-use Rattle.std.specs.Prelude.{◌≡◌, ℕ, ◌+◌, ◌*◌, ◌≤◌, Bool, true, false, ◌&&◌, List, length, take, drop, ℤ, pos, negsuc, neg_ℤ, Ok, Err, Result, ◌==◌, nat_le, slice_index}
+use Rattle.std.specs.Prelude.{◌≡◌, ℕ, ◌+◌, ◌*◌, ◌≤◌, Bool, true, false, ◌&&◌, List, length, take, drop, ℤ, pos, negsuc, neg_ℤ, Ok, Err, Result, ◌==◌, nat_le, slice_index, MatchResult}
 use Rattle.model.specs.Paper.{pick}
 use Rattle.session.specs.Memory.{Sound, cells_words, pieces_words, undo_words}
 use Rattle.session.specs.Contract.{Called, Opening, enough, good_limits}
-use Rattle.session.specs.declared.Refusal.{Refusal}
+use Rattle.session.specs.Refusals.{refusal_number, refusal_place}
+use Rattle.session.specs.declared.refusal.Refusal.{Refusal}
+use Rattle.capi.specs.declared.Slice.{Slice}
+use Rattle.capi.specs.declared.Slice.TheVariants.{Cells, Pieces, Undo}
+use Rattle.capi.specs.declared.UnknownSlice.{UnknownSlice}
 
 -- a refusal as one number: -(refusal * 2^32 + place)
 abbrev pub code : ℕ → ℕ → ℤ
 code refusal place = neg_ℤ (pos (refusal * 4294967296 + place))
+
+-- the number of a slice
+abbrev pub slice_number : Slice → ℕ
+slice_number Cells = 0
+slice_number Pieces = 1
+slice_number Undo = 2
+
+-- a number is that of the slice which is found, and where none is found it is past them all
+abbrev pub NamesSlice : ℕ → Result Slice UnknownSlice → Type 0
+NamesSlice n r = MatchResult r (λ slice. slice_number slice ≡ n) (λ e. (e.0 ≡ n) × (3 ≤ n))
 
 -- how many words the slice 0, 1 or 2 has to have
 abbrev pub slice_words : ℕ → ℕ → ℕ → ℕ → ℕ
@@ -20,7 +34,7 @@ words_told which n c u = pick (nat_le which 2) (pick (good_limits n c u) (pos (s
 -- what desk_open returns for how the session's open ended
 abbrev pub open_told : Result (Unit {0}) Refusal → ℤ
 open_told (Ok _) = pos 0
-open_told (Err e) = code e.number e.place
+open_told (Err e) = code (refusal_number e) (refusal_place e)
 
 -- What desk_open does: what the session's open does, whose end it tells.
 pub record OpenReturns (r : ℤ) (n c u : ℕ) (cs ps us cs' ps' us' : List ℕ) : Type 0 where

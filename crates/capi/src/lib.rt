@@ -1,16 +1,41 @@
 // The C interface: a slice is passed as a pointer and a length. include/desk.h tells what a caller has to know.
 #![tactic(auto)]
 
-ghost use Rattle.std.specs.Prelude.{◌≡◌, ◌≤◌, ◌&&◌, length, nat_le};
-ghost use Rattle.capi.specs.Interface.{CallReturns, Callable, OpenReturns, StaysCallable, code, long_enough, words_told};
-ghost use Rattle.session.specs.Contract.{good_limits};
+ghost use Rattle.std.specs.Prelude.{◌≡◌, ◌&&◌, length, nat_le};
+ghost use Rattle.capi.specs.Interface.{CallReturns, Callable, NamesSlice, OpenReturns, StaysCallable, code, long_enough, words_told};
+ghost use Rattle.session.specs.Refusals.{refusal_number, refusal_place};
 
-use session::Limits;
+use session::{ANSWER_BYTES, Limits, Refusal, Sizes};
 
-// How many bytes the longest answer has: 64 rows of 256 cells.
-const ANSWER_BYTES: usize = 262_405;
+/// One of the slices that are lent.
+#[derive(Clone, Copy, Debug, PartialEq, Eq, Hash)]
+pub enum Slice {
+    Cells,
+    Pieces,
+    Undo,
+}
 
-// How many words a slice has to have for a desk with these limits: 0 the cells, 1 the pieces, 2 what can be undone.
+/// A number that names no slice.
+#[derive(Clone, Copy, Debug, PartialEq, Eq, Hash)]
+pub struct UnknownSlice(pub u32);
+
+impl TryFrom<u32> for Slice {
+    type Error = UnknownSlice;
+
+    ghost try_from_gives = { NamesSlice };
+
+    fn try_from(number: u32) -> Result<Self, UnknownSlice> {
+        match number {
+            // the numbers that C knows the slices by
+            0 => Ok(Slice::Cells),
+            1 => Ok(Slice::Pieces),
+            2 => Ok(Slice::Undo),
+            _ => Err(UnknownSlice(number)),
+        }
+    }
+}
+
+// How many words a slice has to have for a desk with these limits: 0 the cells, 1 the pieces, 2 what can be undone; it is a number, as C passes it.
 #[unsafe(no_mangle)]
 pub extern "C" fn desk_words(which: u32, cells: u32, changes: u32, undos: u32) -> i64
     ensures { result ≡ words_told which cells changes undos }
@@ -20,21 +45,21 @@ pub extern "C" fn desk_words(which: u32, cells: u32, changes: u32, undos: u32) -
         changes,
         undos,
     };
-    if which > 2 {
-        return refused(2, 0);
-    }
-    if !in_range(limits) {
-        return refused(3, 1);
+    let Ok(slice) = Slice::try_from(which) else {
+        return refused(Refusal::OutOfRange);
+    };
+    if !limits.are_allowed() {
+        return refused(Refusal::LimitsOutOfRange);
     }
     let asked = session::words_for(limits);
-    match which {
-        0 => asked.cells as i64,
-        1 => asked.pieces as i64,
-        _ => asked.undo as i64,
+    match slice {
+        Slice::Cells => asked.cells as i64,
+        Slice::Pieces => asked.pieces as i64,
+        Slice::Undo => asked.undo as i64,
     }
 }
 
-// Opens a desk with an empty paper in lent memory, whatever that holds.
+// Opens a desk with an empty paper in lent memory, whatever that holds. C passes each slice apart.
 #[unsafe(no_mangle)]
 pub extern "C" fn desk_open(
     cells: &mut [u32],
@@ -53,11 +78,12 @@ pub extern "C" fn desk_open(
     };
     match session::open(cells, pieces, undo, limits) {
         Ok(()) => 0,
-        Err(refusal) => refused(refusal.number, refusal.place),
+        Err(refusal) => refused(refusal),
     }
 }
 
 // Does a call at an open desk. Memory that is long enough for the limits in it has to be what desk_open left and only desk_call has changed since.
+// C passes each slice apart.
 #[unsafe(no_mangle)]
 pub extern "C" fn desk_call(
     cells: &mut [u32],
@@ -76,14 +102,7 @@ pub extern "C" fn desk_call(
     }
 }
 
-// Whether a desk can be opened with these limits.
-fn in_range(limits: Limits) -> bool
-    ensures { result ≡ good_limits limits.cells limits.changes limits.undos }
-{
-    (limits.cells <= 1_000_000) & ((limits.changes <= 65_536) & (limits.undos <= 1_000_000))
-}
-
-// Whether memory is as long as the limits in it ask for.
+// Whether memory is as long as the limits in it ask for. The slices stand apart, as C passes them.
 fn suffices(cells: &[u32], pieces: &[u32], undo: &[u32]) -> bool
     ensures { result ≡ long_enough cells.now pieces.now undo.now }
 {
@@ -95,23 +114,22 @@ fn suffices(cells: &[u32], pieces: &[u32], undo: &[u32]) -> bool
         changes: pieces[1],
         undos: pieces[2],
     };
-    let asked = session::words_for(limits);
-    in_range(limits)
-        & ((asked.cells <= cells.len())
-            & ((asked.pieces <= pieces.len()) & (asked.undo <= undo.len())))
+    let lent = Sizes {
+        cells: cells.len(),
+        pieces: pieces.len(),
+        undo: undo.len(),
+    };
+    limits.are_allowed() & limits.have_room(lent)
 }
 
 // A refusal as one number.
-fn refused(number: u32, place: u32) -> i64
-    requires { number ≤ 9 }
-    ensures { result ≡ code number place }
+fn refused(refusal: Refusal) -> i64
+    ensures { result ≡ code (refusal_number refusal) (refusal_place refusal) }
 {
-    -(number as i64 * 4_294_967_296 + place as i64)
+    -(refusal.number() as i64 * 4_294_967_296 + refusal.place() as i64)
 }
 
 // What desk_call asks of memory holds once desk_open has opened it, and after every desk_call.
-pub fn stays_callable() -> u8
+pub fn stays_callable()
     ensures { StaysCallable }
-{
-    0
-}
+{}

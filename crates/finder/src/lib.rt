@@ -7,6 +7,7 @@ ghost use Rattle.finder.specs.Laws.{FullIsFound, UnfoundIsAbsent};
 ghost use Rattle.finder.specs.Match.{Step, Table};
 
 // Fills the table: its entry at k is the length of the longest proper border of the first k + 1 letters. The words past these stay.
+// The table is lent memory of a fixed size, as a search gets no heap.
 pub fn prepare(letters: &[u8], table: &mut [u32])
     requires in_bounds { (1 ≤ length letters.now) × (length letters.now ≤ 256) }
     requires letters_in_bounds { length letters.now ≤ length table.old }
@@ -15,6 +16,7 @@ pub fn prepare(letters: &[u8], table: &mut [u32])
 {
     table[0] = 0;
     let mut k = 0;
+    // An index, as each step reads the entries before the one that it fills.
     for i in 1..letters.len() {
         k = step(letters, table, k, letters[i] as u32);
         table[i] = k as u32;
@@ -29,6 +31,7 @@ pub fn step(letters: &[u8], table: &[u32], matched: usize, letter: u32) -> usize
     ensures { Step letters.now matched letter result }
 {
     let mut k = matched;
+    // From border to border: the table says where to go, and nothing is counted.
     while letters[k] as u32 != letter {
         if k == 0 {
             return 0;
@@ -39,18 +42,14 @@ pub fn step(letters: &[u8], table: &[u32], matched: usize, letter: u32) -> usize
 }
 
 // Where all of the letters match for the first time, they are found.
-pub fn full_is_found() -> u8
+pub fn full_is_found()
     ensures { FullIsFound }
-{
-    0
-}
+{}
 
 // Where all was read and they never matched whole, they are not there.
-pub fn unfound_is_absent() -> u8
+pub fn unfound_is_absent()
     ensures { UnfoundIsAbsent }
-{
-    0
-}
+{}
 
 #[cfg(test)]
 mod tests {
@@ -60,11 +59,12 @@ mod tests {
     fn place(letters: &[u8], text: &[u8]) -> usize
         requires { (1 ≤ length letters.now) × (length letters.now ≤ 256) }
     {
+        // As long as the longest letters may be.
         let mut table = [0; 256];
         prepare(letters, &mut table);
         let mut k = 0;
-        for i in 0..text.len() {
-            k = step(letters, &table, k, text[i] as u32);
+        for (i, letter) in text.iter().enumerate() {
+            k = step(letters, &table, k, *letter as u32);
             if k == letters.len() {
                 return i + 1 - k;
             }

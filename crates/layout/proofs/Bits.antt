@@ -1,5 +1,6 @@
 -- The ways in which a cell is seen, as bits.
 use Rattle.std.proofs.Common.{◌≡◌, ℕ, zero, suc, ◌+◌, ◌/◌, ◌%◌, ◌^◌, ◌<◌, ◌≤◌, Bool, true, false, eqb, refl, arith}
+use mir.Val.{bool_byte}
 use Rattle.model.specs.Paper.{pick, Cell, seen}
 
 bit_0 : (a b : Bool) → (1 + pick a 2 0 + pick b 4 0) / 2 ^ 0 % 2 ≡ 1
@@ -35,20 +36,7 @@ pub up_to : (b : Bool) (n : ℕ) → pick b n 0 ≤ n
 up_to true n = omega arith
 up_to false n = omega arith
 
-pub ways_small : (x : Cell) (a b : ℕ) → a ≡ pick (eqb x.struck 0) 2 0 → b ≡ pick (eqb x.put_in 0) 4 0 → 1 + a + b < 8
-ways_small x a b e f = omega (arith, up_to (eqb x.struck 0) 2, up_to (eqb x.put_in 0) 4)
-
--- each way by itself
-pub seen_all : (way : ℕ) (x : Cell) → way ≡ 0 → true ≡ seen way x
-unfolding seen
-seen_all way x e = rw e refl
-
-pub seen_unstruck : (way : ℕ) (x : Cell) → way ≡ 1 → eqb x.struck 0 ≡ seen way x
-unfolding seen
-seen_unstruck way x e = rw e refl
-
-pub seen_not_put : (way : ℕ) (x : Cell) → way < 3 → (way ≡ 0 → ⊥) → (way ≡ 1 → ⊥) → eqb x.put_in 0 ≡ seen way x
-unfolding seen
-seen_not_put zero x h a b = absurd (a refl)
-seen_not_put (suc zero) x h a b = absurd (b refl)
-seen_not_put (suc (suc way)) x h a b = refl
+-- a test as a number
+pub bit_of : (b : Bool) → bool_byte b ≡ pick b 1 0
+bit_of true = refl
+bit_of false = refl

@@ -3,6 +3,7 @@ mod Spans
 pub mod Spots
 mod Scan
 mod Found
+pub mod Comes
 mod Passed
 mod Written
 mod Shown

@@ -2,37 +2,42 @@
 use Rattle.std.specs.Prelude.{◌≡◌, ℕ, ◌<◌, ◌≤◌, List, [], length, drop, Some, None, Option}
 use Rattle.model.specs.Paper.{Cell}
 use Rattle.model.specs.Rows.{cut, rows}
+use Rattle.model.specs.Values.{way_number}
 use Rattle.model.specs.Walk.{step, rest}
-use Rattle.pieces.specs.declared.Spot.{Spot}
-use Rattle.layout.specs.declared.Row.{Row}
+use Rattle.tree.specs.declared.Spot.{Spot}
+use Rattle.layout.specs.declared.sheet.Row.{Row}
+use Rattle.layout.specs.declared.sheet.Sheet.{Sheet}
 use Rattle.layout.specs.Spots.{left, Inside}
 
 -- the cells that are seen from a spot on
-abbrev pub ahead : List ℕ → List ℕ → ℕ → ℕ → Spot → List Cell
-ahead c p s way t = left c p s way t.piece t.offset
+abbrev pub ahead : Sheet → Spot → List Cell
+ahead s t = left s.text.cells.now s.text.tables.now s.text.slots (way_number s.way) t.piece t.offset
+
+-- a spot in one of the pieces, or after them
+abbrev pub Within : Sheet → Spot → Type 0
+Within s t = Inside s.text.tables.now s.text.slots t.piece t.offset
 
 -- the next row goes from where k cells from the spot on are passed
-pub record GoesOn (c p : List ℕ) (s way : ℕ) (t : Spot) (k : ℕ) (r : Row) : Type 0 where
-  pub from : r.from ≡ t
-  pub spot : Inside p s r.next.piece r.next.offset
-  pub rest : ahead c p s way r.next ≡ drop k (ahead c p s way t)
+pub record GoesOn (s : Sheet) (t : Spot) (k : ℕ) (r : Row) : Type 0 where
+  pub spot : Within s r.next
+  pub rest : ahead s r.next ≡ drop k (ahead s t)
 
 -- r is the first row of what is seen from the spot on, of which there is something
-pub record Found (c p : List ℕ) (s way width : ℕ) (t : Spot) (r : Row) : Type 0 where
-  pub some : 0 < length (ahead c p s way t)
-  pub long : r.long ≡ (cut width (ahead c p s way t)).long
-  pub next : GoesOn c p s way t (step width (ahead c p s way t)) r
+pub record Found (s : Sheet) (t : Spot) (r : Row) : Type 0 where
+  pub some : 0 < length (ahead s t)
+  pub long : r.long ≡ (cut s.width (ahead s t)).long
+  pub next : GoesOn s t (step s.width (ahead s t)) r
 
-abbrev pub RowIs : List ℕ → List ℕ → ℕ → ℕ → ℕ → Spot → Option Row → Type 0
-RowIs c p s way width t None = ahead c p s way t ≡ []
-RowIs c p s way width t (Some r) = Found c p s way width t r
+abbrev pub RowIs : Sheet → Spot → Option Row → Type 0
+RowIs s t None = ahead s t ≡ []
+RowIs s t (Some r) = Found s t r
 
 -- u is the spot after n rows
-pub record Passed (c p : List ℕ) (s way width : ℕ) (t : Spot) (n : ℕ) (u : Spot) : Type 0 where
-  pub spot : Inside p s u.piece u.offset
-  pub enough : n ≤ length (rows width (ahead c p s way t))
-  pub left : ahead c p s way u ≡ rest width n (ahead c p s way t)
+pub record Passed (s : Sheet) (t : Spot) (n : ℕ) (u : Spot) : Type 0 where
+  pub spot : Within s u
+  pub enough : n ≤ length (rows s.width (ahead s t))
+  pub left : ahead s u ≡ rest s.width n (ahead s t)
 
-abbrev pub SpotIs : List ℕ → List ℕ → ℕ → ℕ → ℕ → Spot → ℕ → Option Spot → Type 0
-SpotIs c p s way width t n None = length (rows width (ahead c p s way t)) < n
-SpotIs c p s way width t n (Some u) = Passed c p s way width t n u
+abbrev pub SpotIs : Sheet → Spot → ℕ → Option Spot → Type 0
+SpotIs s t n None = length (rows s.width (ahead s t)) < n
+SpotIs s t n (Some u) = Passed s t n u

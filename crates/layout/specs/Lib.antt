@@ -1,3 +1,4 @@
 pub mod Spots
+pub mod Seen
 pub mod Found
 pub mod Shown

@@ -9,3 +9,4 @@ mod Cells
 mod Cuts
 mod Packs
 pub mod Edit
+pub mod Rewriting

@@ -10,13 +10,14 @@ ghost use Rattle.pieces.specs.Store.{used as uses, slot, number, piece, cells_of
 ghost use Rattle.pieces.specs.Marks.{has, noted, noted_cells, with_set, Beside, Grown, Has, Joined, Lacks, Marks};
 ghost use Rattle.pieces.specs.Edits.{replaced, Changed, Cut, Filled, Packed, Recounted, Resized, Rotated, SameText, Shifted};
 ghost use Rattle.model.specs.Paper.{new_cells};
-ghost use Rattle.slots.specs.Cells.{cells_at};
+ghost use Rattle.slots.specs.Cells.{all_cells, cells_at};
 ghost use Rattle.tree.specs.Tree.{Sums};
 
 mod text;
 
 use model::Cell;
 pub use text::{Text, TextMut};
+pub use tree::Spot;
 
 // How many cells a slot takes.
 const CELLS: usize = 1024;
@@ -34,13 +35,6 @@ const LOW: usize = 6144;
 const HIGH: usize = 8192;
 
 const WORDS: usize = 10240;
-
-// A piece, and a place in it.
-#[derive(Clone, Copy)]
-pub struct Spot {
-    pub piece: usize,
-    pub offset: usize,
-}
 
 // How many slots a paper of at most `max_cells` cells gets: more than it needs, so that slots seldom run short.
 pub fn slots_for(max_cells: usize) -> usize
@@ -71,64 +65,6 @@ pub fn number_of(p: &[u32], s: usize, k: usize, j: usize) -> usize
     CELLS * p[k] as usize + j
 }
 
-// Cell `j` of piece `k`.
-pub fn cell(c: &[u32], p: &[u32], s: usize, k: usize, j: usize) -> Cell
-    requires store { Store c.now p.now s }
-    requires here { k < s }
-    requires within { j < uses p.now k }
-    ensures { cell_of result ≡ slice_index_or (cells_of c.now p.now s) (before p.now k + j) no_cell }
-{
-    slots::read(c, number_of(p, s, k, j))
-}
-
-// How many cells there are.
-pub fn count(p: &[u32], s: usize) -> usize
-    requires { Table p.now s }
-    ensures { result ≡ before p.now s }
-{
-    p[TREE + 1] as usize
-}
-
-// Where cell number `place` of the text stands.
-pub fn locate(p: &[u32], s: usize, place: usize) -> Spot
-    requires table { Table p.now s }
-    requires place { place < before p.now s }
-    ensures { Located p.now s place result.piece result.offset }
-{
-    let spot = tree::find(&p[TREE..], place);
-    Spot {
-        piece: spot.leaf,
-        offset: spot.offset,
-    }
-}
-
-// Writes cell `o` of piece `k`.
-pub fn overwrite(c: &mut [u32], p: &mut [u32], s: usize, k: usize, o: usize, cell: Cell)
-    requires store { Store c.old p.old s }
-    requires here { k < s }
-    requires within { o < uses p.old k }
-    ensures { Edited c.old p.old c.new p.new s (slice_set (cells_of c.old p.old s) (before p.old k + o) (cell_of cell)) }
-{
-    slots::write(c, number_of(p, s, k, o), cell);
-    let i = p[k] as usize;
-    note(p, i, cell.put_in);
-    note(p, i, cell.struck);
-}
-
-// Whether piece `k` may have a cell with the mark. If not, it has none.
-pub fn may_have(p: &[u32], s: usize, k: usize, mark: u32) -> bool
-    requires order { Order p.now s }
-    requires here { k < s }
-    requires some { 0 < mark }
-    ensures is { result ≡ has p.now (slot p.now k) mark }
-    ensures lacks { result ≡ false → (c : List ℕ) → Store c p.now s → AllByRecursion (Lacks mark) (piece c p.now k) }
-{
-    let i = p[k] as usize;
-    let low = (p[LOW + i] >> (mark % 32)) % 2;
-    let high = (p[HIGH + i] >> (mark / 32 % 32)) % 2;
-    (low == 1) & (high == 1)
-}
-
 // The set of marks of piece `k` gets the mark.
 pub fn add_mark(p: &mut [u32], s: usize, k: usize, mark: u32)
     requires order { Order p.old s }
@@ -154,70 +90,7 @@ pub fn remark(c: &[u32], p: &mut [u32], s: usize, k: usize)
     let n = used(p, k);
     p[LOW + i] = 0;
     p[HIGH + i] = 0;
-    note_cells(p, i, c, CELLS * i, n);
-}
-
-// Puts letters into the text at `place`: new cells in one style, put in by one change.
-pub fn put(
-    c: &mut [u32],
-    p: &mut [u32],
-    s: usize,
-    place: usize,
-    letters: &[u8],
-    style: u32,
-    change: u32,
-)
-    requires store { Store c.old p.old s }
-    requires place { place ≤ length (cells_of c.old p.old s) }
-    requires few { length letters.now ≤ 1024 }
-    requires fits { length (cells_of c.old p.old s) + length letters.now ≤ 768 * (s - 1) }
-    requires mark { change < 4294967295 }
-    ensures { Edited c.old p.old c.new p.new s (take place (cells_of c.old p.old s) ++ (new_cells letters.now style change ++ drop place (cells_of c.old p.old s))) }
-{
-    let mut new = [0; 4 * CELLS];
-    slots::fill(&mut new, 0, letters, style, change);
-    insert(c, p, s, place, &new, 0, letters.len());
-}
-
-// Puts `n` cells of `new`, from its number `from` on, into the text at `place`.
-pub fn insert(
-    c: &mut [u32],
-    p: &mut [u32],
-    s: usize,
-    place: usize,
-    new: &[u32],
-    from: usize,
-    n: usize,
-)
-    requires store { Store c.old p.old s }
-    requires place { place ≤ length (cells_of c.old p.old s) }
-    requires source { 4 * (from + n) ≤ length new.now }
-    requires few { n ≤ 1024 }
-    requires fits { length (cells_of c.old p.old s) + n ≤ 768 * (s - 1) }
-    ensures { Edited c.old p.old c.new p.new s (take place (cells_of c.old p.old s) ++ (cells_at new.now from n ++ drop place (cells_of c.old p.old s))) }
-{
-    let spot = gap(p, s, place);
-    let has = used(p, spot.piece) + n;
-    let last = used(p, s - 1);
-    if has <= CELLS || last == 0 {
-        insert_at(c, p, s, spot, new, from, n);
-        return;
-    }
-    repack(c, p, s);
-    let spot = gap(p, s, place);
-    insert_at(c, p, s, spot, new, from, n);
-}
-
-// Takes `n` cells out of the text, from `place` on.
-pub fn remove(c: &mut [u32], p: &mut [u32], s: usize, place: usize, n: usize)
-    requires store { Store c.old p.old s }
-    requires within { place + n ≤ length (cells_of c.old p.old s) }
-    ensures { Edited c.old p.old c.new p.new s (take place (cells_of c.old p.old s) ++ drop (place + n) (cells_of c.old p.old s)) }
-{
-    let mut left = n;
-    while left > 0 {
-        left -= remove_some(c, p, s, place, left);
-    }
+    note_cells(p, i, slots::part(c, CELLS * i, n));
 }
 
 // Makes an empty text in `s` slots. Every word of the slots, the order, the tree and the sets is known afterwards.
@@ -231,8 +104,8 @@ pub fn clear(c: &mut [u32], p: &mut [u32], s: usize)
     ensures store { Store c.new p.new s }
     ensures empty { cells_of c.new p.new s ≡ [] }
 {
-    zero(c, 4 * CELLS * s);
-    zero(p, WORDS);
+    c[..4 * CELLS * s].fill(0);
+    p[..WORDS].fill(0);
     enumerate(p, s);
 }
 
@@ -252,66 +125,9 @@ fn enumerate(w: &mut [u32], n: usize)
     requires long { n ≤ length w.old }
     ensures { w.new ≡ range_with_len 0 n ++ drop n w.old }
 {
-    for i in 0..n {
-        w[i] = i as u32;
+    for (i, word) in w[..n].iter_mut().enumerate() {
+        *word = i as u32;
     }
-}
-
-// Where a cell that is put in at `place` goes: at the front, or just behind the cell before it.
-fn gap(p: &[u32], s: usize, place: usize) -> Spot
-    requires table { Table p.now s }
-    requires place { place ≤ before p.now s }
-    ensures { Gap p.now s place result.piece result.offset }
-{
-    if place == 0 {
-        return Spot {
-            piece: 0,
-            offset: 0,
-        };
-    }
-    let spot = locate(p, s, place - 1);
-    Spot {
-        piece: spot.piece,
-        offset: spot.offset + 1,
-    }
-}
-
-// Puts the cells in at a gap. If they do not fit the piece there, it is cut at the gap, which takes the last piece.
-fn insert_at(c: &mut [u32], p: &mut [u32], s: usize, spot: Spot, new: &[u32], from: usize, n: usize)
-    requires store { Store c.old p.old s }
-    requires here { spot.piece < s }
-    requires within { spot.offset ≤ uses p.old spot.piece }
-    requires source { 4 * (from + n) ≤ length new.now }
-    requires few { n ≤ 1024 }
-    requires spare { 1024 < uses p.old spot.piece + n → uses p.old (s - 1) ≡ 0 }
-    ensures { Edited c.old p.old c.new p.new s (replaced (cells_of c.old p.old s) (before p.old spot.piece + spot.offset) 0 (cells_at new.now from n)) }
-{
-    let k = spot.piece;
-    let o = spot.offset;
-    if used(p, k) + n <= CELLS {
-        insert_here(c, p, s, k, o, new, from, n);
-        return;
-    }
-    split(c, p, s, k, o);
-    let first = n.min(CELLS - o);
-    insert_here(c, p, s, k, o, new, from, first);
-    insert_here(c, p, s, k + 1, 0, new, from + first, n - first);
-}
-
-// Takes out cells from `place` on, as far as one piece has them and at most `n`. Returns how many.
-fn remove_some(c: &mut [u32], p: &mut [u32], s: usize, place: usize, n: usize) -> usize
-    requires store { Store c.old p.old s }
-    requires within { place + n ≤ before p.old s }
-    requires some { 0 < n }
-    ensures edited { Edited c.old p.old c.new p.new s (replaced (cells_of c.old p.old s) place result []) }
-    ensures some { 0 < result }
-    ensures most { result ≤ n }
-{
-    let spot = locate(p, s, place);
-    let has = used(p, spot.piece) - spot.offset;
-    let m = n.min(has);
-    remove_here(c, p, s, spot.piece, spot.offset, m);
-    m
 }
 
 // Piece `k` gets the length `n`. The counts above it are not right afterwards.
@@ -360,15 +176,14 @@ fn note(p: &mut [u32], i: usize, mark: u32)
     p[HIGH + i] = high;
 }
 
-// The set of slot `i` gets the marks of `n` cells of `c`, from number `from` on.
-fn note_cells(p: &mut [u32], i: usize, c: &[u32], from: usize, n: usize)
+// The set of slot `i` gets the marks of the cells whose words `cells` has.
+fn note_cells(p: &mut [u32], i: usize, cells: &[u32])
     requires inside { i < 2048 }
     requires words { 10240 ≤ length p.old }
-    requires source { 4 * (from + n) ≤ length c.now }
-    ensures { p.new ≡ noted_cells p.old i (cells_at c.now from n) }
+    ensures { p.new ≡ noted_cells p.old i (all_cells cells.now) }
 {
-    for j in 0..n {
-        let cell = slots::read(c, from + j);
+    for j in 0..cells.len() / 4 {
+        let cell = slots::read(cells, j);
         note(p, i, cell.put_in);
         note(p, i, cell.struck);
     }
@@ -387,115 +202,110 @@ fn join(p: &mut [u32], a: usize, b: usize)
     p[HIGH + a] = high;
 }
 
-// Makes room for the cells in the slot of piece `k`, from its cell `o` on, and writes them there.
-fn insert_cells(
-    c: &mut [u32],
-    p: &[u32],
-    s: usize,
-    k: usize,
-    o: usize,
-    new: &[u32],
-    from: usize,
-    n: usize,
-)
+// Makes room for the cells whose words `new` has in the slot of a piece, at a spot of it, and writes them there.
+fn insert_cells(c: &mut [u32], p: &[u32], s: usize, at: Spot, new: &[u32])
     requires order { Order p.now s }
     requires room { 4096 * s ≤ length c.old }
-    requires here { k < s }
-    requires within { o ≤ uses p.now k }
-    requires source { 4 * (from + n) ≤ length new.now }
-    requires fits { uses p.now k + n ≤ 1024 }
-    ensures { Filled c.old c.new p.now k (replaced (piece c.old p.now k) o 0 (cells_at new.now from n)) }
+    requires here { at.piece < s }
+    requires within { at.offset ≤ uses p.now at.piece }
+    requires fits { uses p.now at.piece + length new.now / 4 ≤ 1024 }
+    ensures { Filled c.old c.new p.now at.piece (replaced (piece c.old p.now at.piece) at.offset 0 (all_cells new.now)) }
 {
-    let at = number_of(p, s, k, o);
-    slots::copy(c, at, at + n, used(p, k) - o);
-    slots::paste(c, at, new, from, n);
+    let number = number_of(p, s, at.piece, at.offset);
+    slots::copy(
+        c,
+        number,
+        number + new.len() / 4,
+        used(p, at.piece) - at.offset,
+    );
+    slots::paste(c, number, new);
 }
 
-// Takes `n` cells out of the slot of piece `k`, from its cell `o` on.
-fn remove_cells(c: &mut [u32], p: &[u32], s: usize, k: usize, o: usize, n: usize)
+// Takes `n` cells out of the slot of a piece, from a spot of it on.
+fn remove_cells(c: &mut [u32], p: &[u32], s: usize, at: Spot, n: usize)
     requires order { Order p.now s }
     requires room { 4096 * s ≤ length c.old }
-    requires here { k < s }
-    requires within { o + n ≤ uses p.now k }
-    ensures { Filled c.old c.new p.now k (replaced (piece c.old p.now k) o n []) }
+    requires here { at.piece < s }
+    requires within { at.offset + n ≤ uses p.now at.piece }
+    ensures { Filled c.old c.new p.now at.piece (replaced (piece c.old p.now at.piece) at.offset n []) }
 {
-    let at = number_of(p, s, k, o);
-    slots::copy(c, at + n, at, used(p, k) - (o + n));
+    let number = number_of(p, s, at.piece, at.offset);
+    slots::copy(
+        c,
+        number + n,
+        number,
+        used(p, at.piece) - (at.offset + n),
+    );
 }
 
-// Copies `n` cells of piece `j`, from its cell `o` on, into the slot of piece `i` behind its cells.
-fn append_cells(c: &mut [u32], p: &[u32], s: usize, i: usize, j: usize, o: usize, n: usize)
+// Copies `n` cells, from the spot `from` on, into the slot of piece `i` behind its cells.
+fn append_cells(c: &mut [u32], p: &[u32], s: usize, i: usize, from: Spot, n: usize)
     requires order { Order p.now s }
     requires room { 4096 * s ≤ length c.old }
     requires target { i < s }
-    requires source { j < s }
-    requires within { o + n ≤ uses p.now j }
+    requires source { from.piece < s }
+    requires within { from.offset + n ≤ uses p.now from.piece }
     requires fits { uses p.now i + n ≤ 1024 }
-    ensures { Filled c.old c.new p.now i (piece c.old p.now i ++ take n (drop o (piece c.old p.now j))) }
+    ensures { Filled c.old c.new p.now i (piece c.old p.now i ++ take n (drop from.offset (piece c.old p.now from.piece))) }
 {
-    slots::copy(c, number_of(p, s, j, o), number_of(p, s, i, used(p, i)), n);
+    slots::copy(
+        c,
+        number_of(p, s, from.piece, from.offset),
+        number_of(p, s, i, used(p, i)),
+        n,
+    );
 }
 
-// Puts the cells into piece `k` before its cell `o`. They fit its slot.
-fn insert_here(
-    c: &mut [u32],
-    p: &mut [u32],
-    s: usize,
-    k: usize,
-    o: usize,
-    new: &[u32],
-    from: usize,
-    n: usize,
-)
+// Puts the cells whose words `new` has in at a spot. They fit the slot there.
+fn insert_here(c: &mut [u32], p: &mut [u32], s: usize, at: Spot, new: &[u32])
     requires store { Store c.old p.old s }
-    requires here { k < s }
-    requires within { o ≤ uses p.old k }
-    requires source { 4 * (from + n) ≤ length new.now }
-    requires fits { uses p.old k + n ≤ 1024 }
-    ensures changed { Changed c.old p.old c.new p.new s k (replaced (piece c.old p.old k) o 0 (cells_at new.now from n)) }
+    requires here { at.piece < s }
+    requires within { at.offset ≤ uses p.old at.piece }
+    requires fits { uses p.old at.piece + length new.now / 4 ≤ 1024 }
+    ensures changed { Changed c.old p.old c.new p.new s at.piece (replaced (piece c.old p.old at.piece) at.offset 0 (all_cells new.now)) }
     ensures sums { Sums (drop 2048 p.new) }
-    ensures marks { AllByRecursion (Marks p.new (slot p.new k)) (cells_at new.now from n) }
+    ensures marks { AllByRecursion (Marks p.new (slot p.new at.piece)) (all_cells new.now) }
 {
-    insert_cells(c, p, s, k, o, new, from, n);
-    let more = used(p, k) + n;
-    resize(p, k, more);
-    let i = p[k] as usize;
-    note_cells(p, i, new, from, n);
+    insert_cells(c, p, s, at, new);
+    let more = used(p, at.piece) + new.len() / 4;
+    resize(p, at.piece, more);
+    let i = p[at.piece] as usize;
+    note_cells(p, i, new);
 }
 
-// Takes `n` cells out of piece `k`, from its cell `o` on.
-fn remove_here(c: &mut [u32], p: &mut [u32], s: usize, k: usize, o: usize, n: usize)
+// Takes `n` cells out of a piece, from a spot of it on.
+fn remove_here(c: &mut [u32], p: &mut [u32], s: usize, at: Spot, n: usize)
     requires store { Store c.old p.old s }
-    requires here { k < s }
-    requires within { o + n ≤ uses p.old k }
-    ensures changed { Changed c.old p.old c.new p.new s k (replaced (piece c.old p.old k) o n []) }
+    requires here { at.piece < s }
+    requires within { at.offset + n ≤ uses p.old at.piece }
+    ensures changed { Changed c.old p.old c.new p.new s at.piece (replaced (piece c.old p.old at.piece) at.offset n []) }
     ensures sums { Sums (drop 2048 p.new) }
 {
-    remove_cells(c, p, s, k, o, n);
-    let left = used(p, k) - n;
-    resize(p, k, left);
+    remove_cells(c, p, s, at, n);
+    let left = used(p, at.piece) - n;
+    resize(p, at.piece, left);
 }
 
-// Takes `n` cells out of piece `j`, from its cell `o` on, and puts them behind the cells of piece `i`. The counts are not right afterwards.
-fn shift(c: &mut [u32], p: &mut [u32], s: usize, i: usize, j: usize, o: usize, n: usize)
+// Takes out `n` cells, from the spot `from` on, and puts them behind the cells of piece `i`. The counts are not right afterwards.
+fn shift(c: &mut [u32], p: &mut [u32], s: usize, i: usize, from: Spot, n: usize)
     requires order { Order p.old s }
     requires room { 4096 * s ≤ length c.old }
     requires target { i < s }
-    requires source { j < s }
-    requires two { i ≢ j }
-    requires within { o + n ≤ uses p.old j }
+    requires source { from.piece < s }
+    requires two { i ≢ from.piece }
+    requires within { from.offset + n ≤ uses p.old from.piece }
     requires fits { uses p.old i + n ≤ 1024 }
-    ensures { Shifted c.old p.old c.new p.new s i j o n }
+    ensures { Shifted c.old p.old c.new p.new s i from.piece from.offset n }
 {
     let target = p[i] as usize;
-    let source = p[j] as usize;
-    append_cells(c, p, s, i, j, o, n);
+    let source = p[from.piece] as usize;
+    append_cells(c, p, s, i, from, n);
     let more = used(p, i) + n;
     set_length(p, i, more);
     join(p, target, source);
-    remove_cells(c, p, s, j, o, n);
-    let left = used(p, j) - n;
-    set_length(p, j, left);
+    remove_cells(c, p, s, from, n);
+    let left = used(p, from.piece) - n;
+    set_length(p, from.piece, left);
 }
 
 // The word at `to` moves down to `from`, and those between move up by one.
@@ -509,19 +319,19 @@ fn rotate(p: &mut [u32], from: usize, to: usize)
     p[from] = last;
 }
 
-// Cuts piece `k` at its cell `o`: the last piece, which is empty, moves behind it and takes what follows.
-fn split(c: &mut [u32], p: &mut [u32], s: usize, k: usize, o: usize)
+// Cuts a piece at a spot: the last piece, which is empty, moves behind it and takes what follows.
+fn split(c: &mut [u32], p: &mut [u32], s: usize, at: Spot)
     requires store { Store c.old p.old s }
-    requires here { k + 1 < s }
-    requires within { o ≤ uses p.old k }
+    requires here { at.piece + 1 < s }
+    requires within { at.offset ≤ uses p.old at.piece }
     requires spare { uses p.old (s - 1) ≡ 0 }
-    ensures cut { Cut c.old p.old c.new p.new s k o }
+    ensures cut { Cut c.old p.old c.new p.new s at.piece at.offset }
     ensures sums { Sums (drop 2048 p.new) }
 {
-    rotate(p, k + 1, s - 1);
-    rotate(p, LEAVES + k + 1, LEAVES + s - 1);
-    let n = used(p, k) - o;
-    shift(c, p, s, k + 1, k, o, n);
+    rotate(p, at.piece + 1, s - 1);
+    rotate(p, LEAVES + at.piece + 1, LEAVES + s - 1);
+    let n = used(p, at.piece) - at.offset;
+    shift(c, p, s, at.piece + 1, at, n);
     recount(p, s);
 }
 
@@ -533,6 +343,7 @@ fn repack(c: &mut [u32], p: &mut [u32], s: usize)
     ensures spare { before p.old s < 768 * (s - 1) → uses p.new (s - 1) ≡ 0 }
 {
     let mut i = 0;
+    // By number, as each turn changes the words that hold the pieces.
     for j in 1..s {
         i = settle(c, p, s, i, j);
     }
@@ -551,6 +362,7 @@ fn settle(c: &mut [u32], p: &mut [u32], s: usize, i: usize, j: usize) -> usize
     ensures packed { Packed p.new result (j + 1) }
 {
     let mut i = i;
+    // Not a `for`, as a turn may stay at the same piece: it says with which piece to go on.
     while i < j && used(p, j) > 0 {
         i = pour(c, p, s, i, j);
     }
@@ -575,6 +387,141 @@ fn pour(c: &mut [u32], p: &mut [u32], s: usize, i: usize, j: usize) -> usize
         return i + 1;
     }
     let n = (FULL - has).min(used(p, j));
-    shift(c, p, s, i, j, 0, n);
+    let front = Spot {
+        piece: j,
+        offset: 0,
+    };
+    shift(c, p, s, i, front, n);
     i
+}
+
+// What follows takes the slices of a text apart; `Text` and `TextMut` have the same.
+
+// How many cells there are.
+pub fn count(p: &[u32], s: usize) -> usize
+    requires { Table p.now s }
+    ensures { result ≡ before p.now s }
+{
+    p[TREE + 1] as usize
+}
+
+// Where cell number `place` of the text stands.
+pub fn locate(p: &[u32], s: usize, place: usize) -> Spot
+    requires table { Table p.now s }
+    requires place { place < before p.now s }
+    ensures { Located p.now s place result.piece result.offset }
+{
+    tree::find(&p[TREE..], place)
+}
+
+// Whether piece `k` may have a cell with the mark. If not, it has none.
+pub fn may_have(p: &[u32], s: usize, k: usize, mark: u32) -> bool
+    requires order { Order p.now s }
+    requires here { k < s }
+    requires some { 0 < mark }
+    ensures is { result ≡ has p.now (slot p.now k) mark }
+    ensures lacks { result ≡ false → (c : List ℕ) → Store c p.now s → AllByRecursion (Lacks mark) (piece c p.now k) }
+{
+    let i = p[k] as usize;
+    let low = (p[LOW + i] >> (mark % 32)) % 2;
+    let high = (p[HIGH + i] >> (mark / 32 % 32)) % 2;
+    (low == 1) & (high == 1)
+}
+
+// Cell `j` of piece `k`.
+pub fn cell(c: &[u32], p: &[u32], s: usize, k: usize, j: usize) -> Cell
+    requires store { Store c.now p.now s }
+    requires here { k < s }
+    requires within { j < uses p.now k }
+    ensures { cell_of result ≡ slice_index_or (cells_of c.now p.now s) (before p.now k + j) no_cell }
+{
+    let text = Text {
+        cells: c,
+        tables: p,
+        slots: s,
+    };
+    text.cell(k, j)
+}
+
+// Writes cell `o` of piece `k`.
+pub fn overwrite(c: &mut [u32], p: &mut [u32], s: usize, k: usize, o: usize, cell: Cell)
+    requires store { Store c.old p.old s }
+    requires here { k < s }
+    requires within { o < uses p.old k }
+    ensures { Edited c.old p.old c.new p.new s (slice_set (cells_of c.old p.old s) (before p.old k + o) (cell_of cell)) }
+{
+    let mut text = TextMut {
+        cells: c,
+        tables: p,
+        slots: s,
+    };
+    let at = Spot {
+        piece: k,
+        offset: o,
+    };
+    text.overwrite(at, cell);
+}
+
+// Puts letters into the text at `place`: new cells in one style, put in by one change.
+pub fn put(
+    c: &mut [u32],
+    p: &mut [u32],
+    s: usize,
+    place: usize,
+    letters: &[u8],
+    style: u32,
+    change: u32,
+)
+    requires store { Store c.old p.old s }
+    requires place { place ≤ length (cells_of c.old p.old s) }
+    requires few { length letters.now ≤ 1024 }
+    requires fits { length (cells_of c.old p.old s) + length letters.now ≤ 768 * (s - 1) }
+    requires mark { change < 4294967295 }
+    ensures { Edited c.old p.old c.new p.new s (take place (cells_of c.old p.old s) ++ (new_cells letters.now style change ++ drop place (cells_of c.old p.old s))) }
+{
+    let mut text = TextMut {
+        cells: c,
+        tables: p,
+        slots: s,
+    };
+    text.put(place, letters, style, change);
+}
+
+// Puts `n` cells of `new`, from its number `from` on, into the text at `place`.
+pub fn insert(
+    c: &mut [u32],
+    p: &mut [u32],
+    s: usize,
+    place: usize,
+    new: &[u32],
+    from: usize,
+    n: usize,
+)
+    requires store { Store c.old p.old s }
+    requires place { place ≤ length (cells_of c.old p.old s) }
+    requires source { 4 * (from + n) ≤ length new.now }
+    requires few { n ≤ 1024 }
+    requires fits { length (cells_of c.old p.old s) + n ≤ 768 * (s - 1) }
+    ensures { Edited c.old p.old c.new p.new s (take place (cells_of c.old p.old s) ++ (cells_at new.now from n ++ drop place (cells_of c.old p.old s))) }
+{
+    let mut text = TextMut {
+        cells: c,
+        tables: p,
+        slots: s,
+    };
+    text.insert(place, slots::part(new, from, n));
+}
+
+// Takes `n` cells out of the text, from `place` on.
+pub fn remove(c: &mut [u32], p: &mut [u32], s: usize, place: usize, n: usize)
+    requires store { Store c.old p.old s }
+    requires within { place + n ≤ length (cells_of c.old p.old s) }
+    ensures { Edited c.old p.old c.new p.new s (take place (cells_of c.old p.old s) ++ drop (place + n) (cells_of c.old p.old s)) }
+{
+    let mut text = TextMut {
+        cells: c,
+        tables: p,
+        slots: s,
+    };
+    text.remove(place, n);
 }

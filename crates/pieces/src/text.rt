@@ -1,15 +1,17 @@
 // A text that is kept in pieces, as one value: lent to be read, or lent to be changed.
-ghost use Rattle.std.specs.Prelude.{◌≡◌, ◌+◌, ◌-◌, ◌*◌, ◌/◌, ◌<◌, ◌≤◌, false, ◌++◌, length, take, drop, slice_index_or, slice_set};
+ghost use Rattle.std.specs.Prelude.{◌≡◌, ◌+◌, ◌-◌, ◌*◌, ◌/◌, ◌<◌, ◌≤◌, false, [], ◌++◌, length, take, drop, slice_index_or, slice_set};
 ghost use Rattle.std.specs.List.{AllByRecursion};
 ghost use Rattle.std.proofs.Props.{props};
 ghost use Rattle.model.specs.Paper.{new_cells};
 ghost use Rattle.model.specs.Values.{cell_of};
-ghost use Rattle.slots.specs.Cells.{cells_at};
-ghost use Rattle.pieces.specs.Store.{Located, Store, before, no_cell, number, piece, slot, used as uses};
+ghost use Rattle.slots.specs.Cells.{all_cells, cells_at};
+ghost use Rattle.pieces.specs.Store.{Gap, Located, Store, before, no_cell, number, piece, slot, used as uses};
+ghost use Rattle.pieces.specs.Edits.{replaced};
 ghost use Rattle.pieces.specs.Marks.{Lacks, has};
 
-use crate::Spot;
+use crate::{CELLS, HIGH, LOW, TREE, insert_here, note, remove_here, repack, split};
 use model::Cell;
+use tree::Spot;
 
 /// A text that is only read: two lent slices of words, and how many slots there are.
 #[derive(Clone, Copy, Debug)]
@@ -46,14 +48,14 @@ impl<'a> Text<'a> {
         requires within { j < uses self.now.tables.now k }
         ensures { cell_of result ≡ slice_index_or (cells_in self.now) (before self.now.tables.now k + j) no_cell }
     {
-        crate::cell(self.cells, self.tables, self.slots, k, j)
+        slots::read(self.cells, self.number_of(k, j))
     }
 
     /// How many cells there are.
     pub fn count(&self) -> usize
         ensures { result ≡ before self.now.tables.now self.now.slots }
     {
-        crate::count(self.tables, self.slots)
+        self.tables[TREE + 1] as usize
     }
 
     /// Where cell number `place` stands.
@@ -61,7 +63,7 @@ impl<'a> Text<'a> {
         requires { place < before self.now.tables.now self.now.slots }
         ensures { Located self.now.tables.now self.now.slots place result.piece result.offset }
     {
-        crate::locate(self.tables, self.slots, place)
+        tree::find(&self.tables[TREE..], place)
     }
 
     /// Whether piece `k` may have a cell with the mark. If not, it has none.
@@ -71,7 +73,28 @@ impl<'a> Text<'a> {
         ensures is { result ≡ has self.now.tables.now (slot self.now.tables.now k) mark }
         ensures lacks { result ≡ false → AllByRecursion (Lacks mark) (piece self.now.cells.now self.now.tables.now k) }
     {
-        crate::may_have(self.tables, self.slots, k, mark)
+        let i = self.tables[k] as usize;
+        let low = (self.tables[LOW + i] >> (mark % 32)) % 2;
+        let high = (self.tables[HIGH + i] >> (mark / 32 % 32)) % 2;
+        (low == 1) & (high == 1)
+    }
+
+    // Where a cell that is put in at `place` goes: at the front, or just behind the cell before it.
+    fn gap(&self, place: usize) -> Spot
+        requires { place ≤ before self.now.tables.now self.now.slots }
+        ensures { Gap self.now.tables.now self.now.slots place result.piece result.offset }
+    {
+        if place == 0 {
+            return Spot {
+                piece: 0,
+                offset: 0,
+            };
+        }
+        let before = self.locate(place - 1);
+        Spot {
+            piece: before.piece,
+            offset: before.offset + 1,
+        }
     }
 }
 
@@ -105,14 +128,11 @@ impl<'a> TextMut<'a> {
         requires within { at.offset < uses self.old.tables.now at.piece }
         ensures { Rewrites self.old self.new (slice_set (cells_of_mut self.old) (before self.old.tables.now at.piece + at.offset) (cell_of cell)) }
     {
-        crate::overwrite(
-            self.cells,
-            self.tables,
-            self.slots,
-            at.piece,
-            at.offset,
-            cell,
-        );
+        let number = self.text().number_of(at.piece, at.offset);
+        let i = self.tables[at.piece] as usize;
+        note(self.tables, i, cell.put_in);
+        note(self.tables, i, cell.struck);
+        slots::write(self.cells, number, cell);
     }
 
     /// Puts letters into the text at `place`: new cells in one style, put in by one change.
@@ -123,15 +143,9 @@ impl<'a> TextMut<'a> {
         requires mark { change < 4294967295 }
         ensures { Rewrites self.old self.new (take place (cells_of_mut self.old) ++ (new_cells letters.now style change ++ drop place (cells_of_mut self.old))) }
     {
-        crate::put(
-            self.cells,
-            self.tables,
-            self.slots,
-            place,
-            letters,
-            style,
-            change,
-        );
+        let mut new = [0; 4 * CELLS];
+        slots::fill(&mut new, 0, letters, style, change);
+        self.insert(place, &new[..4 * letters.len()]);
     }
 
     /// Puts the cells whose words `new` has into the text at `place`.
@@ -141,15 +155,17 @@ impl<'a> TextMut<'a> {
         requires fits { length (cells_of_mut self.old) + length new.now / 4 ≤ 768 * (self.old.slots - 1) }
         ensures { Rewrites self.old self.new (take place (cells_of_mut self.old) ++ (cells_at new.now 0 (length new.now / 4) ++ drop place (cells_of_mut self.old))) }
     {
-        crate::insert(
-            self.cells,
-            self.tables,
-            self.slots,
-            place,
-            new,
-            0,
-            new.len() / 4,
-        );
+        let text = self.text();
+        let at = text.gap(place);
+        let has = text.used(at.piece) + new.len() / 4;
+        let last = text.used(text.slots - 1);
+        if has <= CELLS || last == 0 {
+            self.insert_at(at, new);
+            return;
+        }
+        repack(self.cells, self.tables, self.slots);
+        let at = self.text().gap(place);
+        self.insert_at(at, new);
     }
 
     /// Takes `n` cells out of the text, from `place` on.
@@ -157,6 +173,48 @@ impl<'a> TextMut<'a> {
         requires { place + n ≤ length (cells_of_mut self.old) }
         ensures { Rewrites self.old self.new (take place (cells_of_mut self.old) ++ drop (place + n) (cells_of_mut self.old)) }
     {
-        crate::remove(self.cells, self.tables, self.slots, place, n);
+        let mut left = n;
+        // Not a `for`, as only a turn itself shows how many cells it takes out.
+        while left > 0 {
+            left -= self.remove_some(place, left);
+        }
+    }
+
+    // Puts the cells in at a gap. If they do not fit the piece there, it is cut at the gap, which takes the last piece.
+    fn insert_at(&mut self, at: Spot, new: &[u32])
+        requires here { at.piece < self.old.slots }
+        requires within { at.offset ≤ uses self.old.tables.now at.piece }
+        requires few { length new.now ≤ 4096 }
+        requires spare { 1024 < uses self.old.tables.now at.piece + length new.now / 4 → uses self.old.tables.now (self.old.slots - 1) ≡ 0 }
+        ensures { Rewrites self.old self.new (replaced (cells_of_mut self.old) (before self.old.tables.now at.piece + at.offset) 0 (all_cells new.now)) }
+    {
+        let n = new.len() / 4;
+        if self.text().used(at.piece) + n <= CELLS {
+            insert_here(self.cells, self.tables, self.slots, at, new);
+            return;
+        }
+        split(self.cells, self.tables, self.slots, at);
+        let next = Spot {
+            piece: at.piece + 1,
+            offset: 0,
+        };
+        let (front, back) = new.split_at(4 * n.min(CELLS - at.offset));
+        insert_here(self.cells, self.tables, self.slots, at, front);
+        insert_here(self.cells, self.tables, self.slots, next, back);
+    }
+
+    // Takes out cells from `place` on, as far as one piece has them and at most `n`. Returns how many.
+    fn remove_some(&mut self, place: usize, n: usize) -> usize
+        requires within { place + n ≤ before self.old.tables.now self.old.slots }
+        requires some { 0 < n }
+        ensures edited { Rewrites self.old self.new (replaced (cells_of_mut self.old) place result []) }
+        ensures some { 0 < result }
+        ensures most { result ≤ n }
+    {
+        let text = self.text();
+        let at = text.locate(place);
+        let m = n.min(text.used(at.piece) - at.offset);
+        remove_here(self.cells, self.tables, self.slots, at, m);
+        m
     }
 }

@@ -1,7 +1,7 @@
 -- The numbers of a file stand in memory as runs of words.
 use Rattle.std.proofs.Common.{◌≡◌, ℕ, zero, suc, ◌+◌, ◌-◌, ◌*◌, ◌<◌, ◌≤◌, min, List, [], ◌∷◌, ◌++◌, length, get_or, take, drop, refl, ap, ◌∙◌, add-zero, arith}
 use Rattle.std.proofs.lemmas.List.{append_assoc, length-append, length-drop, length-take-le, take-append-drop, take-append-le, drop-append-le, drop_at, drop-drop, drop_more}
-use Rattle.model.specs.Paper.{Cell, cells_written, changes_written}
+use Rattle.model.specs.Paper.{Cell, cells_written, changes_written, written}
 use Rattle.model.specs.Calls.{numbers}
 use Rattle.changes.specs.Row.{changes_from, changes_of}
 use Rattle.slots.specs.Cells.{cell_at, cells_at}
@@ -10,7 +10,7 @@ use Rattle.pieces.proofs.Texts.{length_piece, length_text, drop_text, before_wit
 use Rattle.codec.specs.Bytes.{word_bytes, words_bytes, answer_bytes}
 use Rattle.codec.specs.Over.{over}
 use Rattle.codec.proofs.Writes.{over_step, over_start, length_words_bytes}
-use Rattle.saving.specs.Saved.{head, file, Saves, SavesNone}
+use Rattle.saving.specs.Saved.{head, Saves, SavesNone}
 use Rattle.saving.proofs.Runs.{run_within, run_two, words_bytes_both}
 
 pub length_word : (n : ℕ) → length (word_bytes n) ≡ 4
@@ -159,7 +159,10 @@ module _ (c p : List ℕ) (s : ℕ) (h : Store c p s) where
 
 -- the whole file
 module _ (c p : List ℕ) (s : ℕ) (w : List ℕ) (row : ℕ) (long : 2 * row ≤ length w) where
-  length_file : length (file c p s w row) ≡ 1 + 2 * row + 4 * before p s
+  abbrev all_numbers : List ℕ
+  all_numbers = written (record { cells = cells_of c p s; changes = changes_of w row })
+
+  length_file : length (all_numbers) ≡ 1 + 2 * row + 4 * before p s
   length_file =
       let a = length-append (head (changes_of w row)) (cells_written (cells_of c p s)) in
       let b = length_head w row long in
@@ -167,7 +170,7 @@ module _ (c p : List ℕ) (s : ℕ) (w : List ℕ) (row : ℕ) (long : 2 * row �
       let t = length_text c p s in
       omega arith
 
-  pub saves_none : (from n : ℕ) (out : List ℕ) → 1 + 2 * row + 4 * before p s < from + n → SavesNone (file c p s w row) from n out out
+  pub saves_none : (from n : ℕ) (out : List ℕ) → 1 + 2 * row + 4 * before p s < from + n → SavesNone (all_numbers) from n out out
   saves_none from n out h = let l = length_file in record { short = omega arith; same = refl }
 
   module _ (from n first place : ℕ) (out o₁ o₂ o₃ : List ℕ) (a₁ a₂ a₃ : ℕ) (fits : from + n ≤ 1 + 2 * row + 4 * before p s) (room : 5 + 4 * n ≤ length out)
@@ -176,7 +179,7 @@ module _ (c p : List ℕ) (s : ℕ) (w : List ℕ) (row : ℕ) (long : 2 * row �
       (w₂ : o₂ ≡ over o₁ a₁ (words_bytes (take first (drop from (head (changes_of w row)))))) (p₂ : a₂ ≡ a₁ + 4 * first)
       (w₃ : o₃ ≡ over o₂ a₂ (words_bytes (take (n - first) (drop place (cells_written (cells_of c p s)))))) (p₃ : a₃ ≡ a₂ + 4 * (n - first)) where
     abbrev mine : List ℕ
-    mine = take n (drop from (file c p s w row))
+    mine = take n (drop from (all_numbers))
 
     abbrev front : List ℕ
     front = take first (drop from (head (changes_of w row)))
@@ -192,7 +195,7 @@ module _ (c p : List ℕ) (s : ℕ) (w : List ℕ) (row : ℕ) (long : 2 * row �
         rw q at (run_two (head (changes_of w row)) (cells_written (cells_of c p s)) from n first e)
 
     length_mine : length mine ≡ n
-    length_mine = let l = length_file in let d = length-drop from (file c p s w row) in length-take-le n (drop from (file c p s w row)) (omega arith)
+    length_mine = let l = length_file in let d = length-drop from (all_numbers) in length-take-le n (drop from (all_numbers)) (omega arith)
 
     length_front : length front ≡ first
     length_front =
@@ -219,7 +222,7 @@ module _ (c p : List ℕ) (s : ℕ) (w : List ℕ) (row : ℕ) (long : 2 * row �
         let v = length_word (length mine) in
         omega arith
 
-    pub saves : Saves (file c p s w row) from n out o₃ a₃
+    pub saves : Saves (all_numbers) from n out o₃ a₃
     saves =
         let l = length_file in
         let f = length_front in

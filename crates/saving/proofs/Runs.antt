@@ -1,7 +1,7 @@
 -- Runs of words: what is written of them, and how they follow one another.
 use Rattle.std.proofs.Common.{◌≡◌, ℕ, ◌+◌, ◌-◌, ◌*◌, ◌<◌, ◌≤◌, min, List, [], ◌∷◌, ◌++◌, length, get_or, take, drop, sym, refl, ap, ◌∙◌, inl, inr, suc-add, zero-add, arith}
 use Rattle.std.proofs.lemmas.Bool.{cases_lt}
-use Rattle.std.proofs.lemmas.List.{append_assoc, append-nil, length-drop, length-take-le, take_all, take-append-drop, take-append-le, take_more, take-take, drop_all, drop-append-le, drop-drop, drop-take, get_or-drop}
+use Rattle.std.proofs.lemmas.List.{append_assoc, append-nil, length-drop, length-take-le, take_all, take-append-drop, take-append-le, take_more, take-take, drop_all, drop-append-le, drop-drop, drop-take}
 use Rattle.codec.specs.Bytes.{word_bytes, words_bytes}
 use Rattle.codec.specs.Over.{over}
 use Rattle.codec.proofs.Writes.{over_more, over_nothing, length_words_bytes, words_step}
@@ -76,15 +76,11 @@ unfolding words_bytes
 run_none o a n ns e = rw e (over_nothing o a)
 
 -- one word more
-pub run_more : (w o : List ℕ) (from a i : ℕ) (o₁ o₂ : List ℕ) (a₁ : ℕ) → from + i < length w → o₁ ≡ over o a (words_bytes (take i (drop from w))) → a₁ ≡ a + 4 * i → a₁ ≤ length o
-    → o₂ ≡ over o₁ a₁ (word_bytes (get_or w (from + i) 0)) → o₂ ≡ over o a (words_bytes (take (i + 1) (drop from w)))
-run_more w o from a i o₁ o₂ a₁ h f p l g =
-    let d = length-drop from w in
-    let t = take_more (drop from w) i 0 (omega arith) in
-    let x = get_or-drop from w i 0 in
-    let e : take (i + 1) (drop from w) ≡ take i (drop from w) ++ (get_or w (from + i) 0 ∷ []) = cc in
-    let n = length-take-le i (drop from w) (omega arith) in
-    rw e (words_step o a [] (take i (drop from w)) (get_or w (from + i) 0) f (omega arith) l g)
+pub run_more : (w o : List ℕ) (a i : ℕ) (o₁ o₂ : List ℕ) (a₁ : ℕ) → i < length w → o₁ ≡ over o a (words_bytes (take i w)) → a₁ ≡ a + 4 * i → a₁ ≤ length o
+    → o₂ ≡ over o₁ a₁ (word_bytes (get_or w i 0)) → o₂ ≡ over o a (words_bytes (take (i + 1) w))
+run_more w o a i o₁ o₂ a₁ h f p l g =
+    let n = length-take-le i w (omega arith) in
+    rw (take_more w i 0 h) (words_step o a [] (take i w) (get_or w i 0) f (omega arith) l g)
 
 -- Of n words to be written from word i of ns on, l are still to be written, from word j on.
 pub record Writing (ns o : List ℕ) (a i n : ℕ) (o' : List ℕ) (a' j l : ℕ) : Type 0 where

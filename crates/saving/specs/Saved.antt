@@ -2,17 +2,19 @@
 use Rattle.std.specs.Prelude.{◌≡◌, ℕ, ◌+◌, ◌<◌, ◌≤◌, List, ◌∷◌, ◌++◌, length, take, drop, Some, None, Option}
 use Rattle.model.specs.Paper.{Change, changes_written, written}
 use Rattle.model.specs.Calls.{numbers}
-use Rattle.changes.specs.Row.{changes_of}
-use Rattle.pieces.specs.Store.{cells_of}
+use Rattle.changes.specs.Rows.{changes_in}
+use Rattle.changes.specs.declared.Row.{Row}
+use Rattle.pieces.specs.Text.{cells_in}
+use Rattle.pieces.specs.declared.text.Text.{Text}
 use Rattle.codec.specs.Bytes.{answer_bytes}
 
 -- the numbers of a file before those of the cells
 abbrev pub head : List Change → List ℕ
 head cs = length cs ∷ changes_written cs
 
--- the file of the paper whose cells stand in c and p, and whose changes stand in the words w
-abbrev pub file : List ℕ → List ℕ → ℕ → List ℕ → ℕ → List ℕ
-file c p s w row = written (record { cells = cells_of c p s; changes = changes_of w row })
+-- the file of the paper that has the cells of a text and the changes of a row
+abbrev pub file : Text → Row → List ℕ
+file text row = written (record { cells = cells_in text; changes = changes_in row })
 
 -- the numbers are there, and stand in the first r bytes; the bytes after them are as they were
 pub record Saves (ns : List ℕ) (from n : ℕ) (out out' : List ℕ) (r : ℕ) : Type 0 where

@@ -7,14 +7,15 @@ use Rattle.changes.specs.Row.{change_at}
 use Rattle.changes.proofs.Steps.{change_in, length_changes}
 use Rattle.sweep.specs.Sweep.{swept}
 use Rattle.sweep.proofs.Laws.{one_meaning}
-use Rattle.session.specs.declared.deciding.Verdict.{Verdict}
-use Rattle.session.specs.declared.deciding.Verdict.TheVariants.{Accepted, Rejected}
+use Rattle.model.specs.Values.{verdict_number}
+use Rattle.model.specs.declared.verdict.Verdict.{Verdict}
+use Rattle.model.specs.declared.verdict.Verdict.TheVariants.{Accepted, Rejected}
 use Rattle.session.specs.Memory.{limits_of, paper_of, Held}
-use Rattle.session.specs.Acts.{Wrote, desk_of, Acted, Rowed, row_of, verdict_action, verdict_became, verdict_call, with_cells}
+use Rattle.session.specs.Acts.{Wrote, desk_of, Acted, row_of, verdict_action, verdict_call, with_cells, with_changes}
 use Rattle.session.proofs.Acting.{turned_first, turned_not, refuses, wrote_it, looked}
 use Rattle.session.proofs.Looking.{fits_now}
 use Rattle.session.proofs.Striking.{few_enough, length_swept}
-use Rattle.session.proofs.Writing.{rowed_too}
+use Rattle.session.proofs.Writing.{noted_too}
 
 module _ (cs ps : List ℕ) (held : Held cs ps) (k : ℕ) where
   changes_here : length (paper_of cs ps).changes ≡ get_or ps 3 0
@@ -69,7 +70,7 @@ module _ (cs ps : List ℕ) (held : Held cs ps) (k : ℕ) where
   told_is Rejected = refl
 
   abbrev after_it : Verdict → Paper
-  after_it v = record { cells = swept (verdict_action v k) (paper_of cs ps).changes (paper_of cs ps).cells; changes = with_became (paper_of cs ps).changes k (verdict_became v) }
+  after_it v = record { cells = swept (verdict_action v k) (paper_of cs ps).changes (paper_of cs ps).cells; changes = with_became (paper_of cs ps).changes k (verdict_number v) }
 
   rewritten_is : (v : Verdict) → rewritten (paper_of cs ps) (verdict_call v k) ≡ after_it v
   unfolding rewritten
@@ -82,9 +83,9 @@ module _ (cs ps : List ℕ) (held : Held cs ps) (k : ℕ) where
   fit v =
       let ys : List Cell = swept (verdict_action v k) (paper_of cs ps).changes (paper_of cs ps).cells in
       let x : leb (length ys) (get_or ps 0 0) ≡ true = few_enough cs ps held ys (length_swept (verdict_action v k) (paper_of cs ps).changes (paper_of cs ps).cells) in
-      let z : Change = record { author = (get_or (paper_of cs ps).changes k (record { author = 0; became = 0 })).author; became = verdict_became v } in
-      let n : length (with_became (paper_of cs ps).changes k (verdict_became v)) ≡ get_or ps 3 0 = length-set (paper_of cs ps).changes k z ∙ changes_here in
-      let y : leb (length (with_became (paper_of cs ps).changes k (verdict_became v))) (get_or ps 1 0) ≡ true = le-leb (length (with_became (paper_of cs ps).changes k (verdict_became v))) (get_or ps 1 0) (omega (arith, held.changes_fit)) in
+      let z : Change = record { author = (get_or (paper_of cs ps).changes k (record { author = 0; became = 0 })).author; became = verdict_number v } in
+      let n : length (with_became (paper_of cs ps).changes k (verdict_number v)) ≡ get_or ps 3 0 = length-set (paper_of cs ps).changes k z ∙ changes_here in
+      let y : leb (length (with_became (paper_of cs ps).changes k (verdict_number v))) (get_or ps 1 0) ≡ true = le-leb (length (with_became (paper_of cs ps).changes k (verdict_number v))) (get_or ps 1 0) (omega (arith, held.changes_fit)) in
       ap (λ (p : Paper). fits (limits_of ps) p) (rewritten_is v) ∙ ap₂ ◌&&◌ x y
 
   refused_so : (v : Verdict) (m : ℕ) → turned_by (desk_of cs ps) (verdict_call v k) ≡ suc m → Acted cs ps (verdict_call v k) cs ps (refused (suc m) 0)
@@ -103,18 +104,15 @@ module _ (cs ps : List ℕ) (held : Held cs ps) (k : ℕ) where
       let b : eqb (became (paper_of cs ps) k) 0 ≡ false = ne_eqb (became (paper_of cs ps) k) 0 (λ e. closed (sym (became_is x h is) ∙ e)) in
       refused_so v 5 (turned_is v ∙ rw (there h, b) refl)
 
-  pub decided : (v : Verdict) (x : Change) (cs' ps' qs : List ℕ) → k < get_or ps 3 0 → x ≡ change_at (drop 16 ps) k → x.became ≡ 0 →
+  pub decided : (v : Verdict) (x : Change) {cs' ps' ds qs : List ℕ} → k < get_or ps 3 0 → x ≡ change_at (drop 16 ps) k → x.became ≡ 0 →
       Wrote cs ps cs' ps' (with_cells (paper_of cs ps) (swept (verdict_action v k) (row_of ps) (paper_of cs ps).cells)) →
-      Rowed ps' qs (with_became (row_of ps') k (verdict_became v)) → Acted cs ps (verdict_call v k) cs' qs (number (touched (paper_of cs ps).cells k))
-  decided v x cs' ps' qs h is open-still w note =
+      Wrote cs' ps' ds qs (with_changes (paper_of cs' ps') (with_became (paper_of cs' ps').changes k (verdict_number v))) →
+      Acted cs ps (verdict_call v k) ds qs (number (touched (paper_of cs ps).cells k))
+  decided v x {ds = ds} {qs = qs} h is open-still w note =
       let p : Paper = paper_of cs ps in
       let b : eqb (became p k) 0 ≡ true = eq-eqb (became p k) 0 (became_is x h is ∙ open-still) in
       let t : turned (limits_of ps) (desk_of cs ps) (verdict_call v k) ≡ 0 =
       turned_not (limits_of ps) (desk_of cs ps) (verdict_call v k) (good_is v) (turned_is v ∙ rw (there h, b) refl) (fit v) in
-      let row : row_of ps' ≡ p.changes = ap (λ (r : Paper). r.changes) w.paper in
-      let rows : List Change = with_became p.changes k (verdict_became v) in
-      let xs : List Cell = swept (verdict_action v k) (row_of ps) p.cells in
-      let all : Wrote cs ps cs' qs (record { cells = xs; changes = rows }) =
-      rowed_too cs ps cs' ps' qs (with_cells p xs) rows w (subst (λ (rs : List Change). Rowed ps' qs (with_became rs k (verdict_became v))) row note) in
-      let done : Wrote cs ps cs' qs (rewritten p (verdict_call v k)) = subst (λ (r : Paper). Wrote cs ps cs' qs r) (sym (rewritten_is v)) all in
-      subst (λ r. Acted cs ps (verdict_call v k) cs' qs r) (told_is v) (wrote_it cs ps cs' qs (verdict_call v k) t (wrote_is v) done)
+      let done : Wrote cs ps ds qs (rewritten p (verdict_call v k)) =
+      subst (λ (r : Paper). Wrote cs ps ds qs r) (sym (rewritten_is v)) (noted_too p (λ (rs : List Change). with_became rs k (verdict_number v)) w note) in
+      subst (λ r. Acted cs ps (verdict_call v k) ds qs r) (told_is v) (wrote_it cs ps ds qs (verdict_call v k) t (wrote_is v) done)

@@ -1,5 +1,5 @@
 -- What opening leaves in memory. Assumes nothing.
-use Rattle.std.proofs.Common.{◌≡◌, ℕ, suc, ◌+◌, ◌-◌, ◌*◌, ◌≤◌, true, ◌&&◌, List, [], ◌∷◌, ◌++◌, length, get_or, take, drop, set, replicate, sym, refl, ap, ◌∙◌, arith, le-leb}
+use Rattle.std.proofs.Common.{◌≡◌, ℕ, suc, ◌+◌, ◌-◌, ◌*◌, ◌≤◌, List, [], ◌∷◌, ◌++◌, length, get_or, take, drop, set, replicate, sym, refl, ap, ◌∙◌, arith}
 use borrow.Rule.Slice.PartMut.{put_mid}
 use Rattle.std.specs.List.{range_with_len}
 use Rattle.std.proofs.lemmas.List.{length-append, length-replicate, length-drop, take_at, drop_at, append_assoc, drop_all, drop-drop, append-nil}
@@ -7,8 +7,7 @@ use Rattle.model.specs.Calls.{new_desk}
 use Rattle.changes.specs.Row.{changes_from}
 use Rattle.pieces.specs.Store.{Store, cells_of, cleared_words}
 use Rattle.pieces.proofs.Cleared.{cleared_long}
-use Rattle.session.specs.Contract.{good_limits, enough}
-use Rattle.session.specs.Memory.{undo_words, slots_for, cells_words, pieces_words, tables, Stands, opened_pieces}
+use Rattle.session.specs.Memory.{slots_for, cells_words, pieces_words, tables, Stands, opened_pieces}
 
 -- the limits and no change
 abbrev pub head : ℕ → ℕ → ℕ → List ℕ
@@ -98,14 +97,3 @@ module _ (n c u : ℕ) (ps begun-words after-tables : List ℕ)
         };
         paper = rw (none, g3) refl;
       }
-
-pub allowed : (n c u : ℕ) (cs ps us : List ℕ) → n ≤ 1000000 → c ≤ 65536 → u ≤ 1000000 → cells_words n ≤ length cs → pieces_words c ≤ length ps →
-    undo_words u ≤ length us → good_limits n c u && enough n c u cs ps us ≡ true
-allowed n c u cs ps us a b d e f g =
-    let a' = le-leb n 1000000 a in
-    let b' = le-leb c 65536 b in
-    let d' = le-leb u 1000000 d in
-    let e' = le-leb (cells_words n) (length cs) e in
-    let f' = le-leb (pieces_words c) (length ps) f in
-    let g' = le-leb (undo_words u) (length us) g in
-    simp (a', b', d', e', f', g')

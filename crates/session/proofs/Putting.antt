@@ -1,15 +1,13 @@
 -- When a put is turned away, and what it leaves. Assumes nothing.
-use Rattle.std.proofs.Common.{◌≡◌, ℕ, suc, ◌+◌, ◌<◌, ◌≤◌, Bool, true, false, ◌&&◌, ltb, leb, List, [], ◌∷◌, ◌++◌, length, get_or, take, drop, sym, refl, ap, ◌∙◌, subst, ap₂, arith, ltb-true, leb-true}
+use Rattle.std.proofs.Common.{◌≡◌, ℕ, suc, ◌+◌, ◌<◌, ◌≤◌, Bool, true, false, ◌&&◌, ltb, leb, List, [], ◌∷◌, ◌++◌, length, get_or, take, drop, sym, refl, ap, ◌∙◌, ap₂, arith, ltb-true, leb-true}
 use Rattle.std.proofs.lemmas.List.{length-append}
 use Rattle.model.specs.Paper.{Paper, Cell, Change, new_cells}
 use Rattle.model.specs.Calls.{put, number, refused, call_number, good_fields, good_call, good_letters, Limits, turned_by, writes, rewritten, fits, turned, told, place}
 use Rattle.changes.proofs.Steps.{length_changes}
-use Rattle.pieces.specs.Store.{before}
-use Rattle.pieces.proofs.Texts.{length_text}
-use Rattle.session.specs.Memory.{limits_of, slots_of, tables, paper_of, Held}
-use Rattle.session.specs.Acts.{Wrote, desk_of, Acted, Rowed, allows, row_of, with_cells}
+use Rattle.session.specs.Memory.{limits_of, paper_of, Held}
+use Rattle.session.specs.Acts.{Wrote, desk_of, Acted, allows, with_cells, with_changes}
 use Rattle.session.proofs.Acting.{turned_first, turned_last, turned_not, refuses, wrote_it}
-use Rattle.session.proofs.Writing.{inserted_length, rowed_too}
+use Rattle.session.proofs.Writing.{inserted_length, noted_too}
 
 pub both_true : (a b : Bool) → (a && b) ≡ true → (a ≡ true) × (b ≡ true)
 both_true true b h = (refl, h)
@@ -33,9 +31,9 @@ still {cs} {ps} {cs'} {ps'} w =
     (sym (changes_counted cs' ps') ∙ (a ∙ changes_counted cs ps), ap (λ (l : Limits). l.changes) w.limits)
 
 -- The paper has n cells.
-module _ {cs ps : List ℕ} (held : Held cs ps) {n : ℕ} (counts : n ≡ before (tables ps) (slots_of ps)) where
+module _ {cs ps : List ℕ} (held : Held cs ps) {n : ℕ} (counts : n ≡ length (paper_of cs ps).cells) where
   pub cells_counted : length (paper_of cs ps).cells ≡ n
-  cells_counted = length_text cs (tables ps) (slots_of ps) ∙ sym counts
+  cells_counted = sym counts
 
   pub put_room : (ls : List ℕ) → allows ps (n + length ls) ≡ true → (length (paper_of cs ps).cells + length ls ≤ get_or ps 0 0) × (get_or ps 3 0 < get_or ps 1 0)
   put_room ls k =
@@ -44,7 +42,7 @@ module _ {cs ps : List ℕ} (held : Held cs ps) {n : ℕ} (counts : n ≡ before
       let l : get_or ps 3 0 < get_or ps 1 0 = ltb-true (get_or ps 3 0) (get_or ps 1 0) e.1 in
       (omega (arith, cells_counted), l)
 
-module _ {cs ps : List ℕ} (held : Held cs ps) {n : ℕ} (counts : n ≡ before (tables ps) (slots_of ps)) (a i s : ℕ) (ls : List ℕ) (good : good_fields (put a i s ls) ≡ true) where
+module _ {cs ps : List ℕ} (held : Held cs ps) {n : ℕ} (counts : n ≡ length (paper_of cs ps).cells) (a i s : ℕ) (ls : List ℕ) (good : good_fields (put a i s ls) ≡ true) where
   good_put : good_call (limits_of ps) (put a i s ls) ≡ true
   unfolding call_number
   good_put = good
@@ -74,17 +72,13 @@ module _ {cs ps : List ℕ} (held : Held cs ps) {n : ℕ} (counts : n ≡ before
   unfolding place
   put_too_much h k = refuses cs ps (put a i s ls) 8 held (turned_last (limits_of ps) (desk_of cs ps) (put a i s ls) good_put (there h) (fit ∙ k))
 
-  pub put_done : {cs' ps' qs : List ℕ} {at m : ℕ} → at ≡ i → m ≡ get_or ps 3 0 → leb i n ≡ true → allows ps (n + length ls) ≡ true →
+  pub put_done : {cs' ps' ds qs : List ℕ} {at m : ℕ} → at ≡ i → m ≡ get_or ps 3 0 → leb i n ≡ true → allows ps (n + length ls) ≡ true →
       Wrote cs ps cs' ps' (with_cells (paper_of cs ps) (take at (paper_of cs ps).cells ++ (new_cells ls s m ++ drop at (paper_of cs ps).cells))) →
-      Rowed ps' qs (row_of ps' ++ (record { author = a; became = 0 } ∷ [])) → Acted cs ps (put a i s ls) cs' qs (number m)
+      Wrote cs' ps' ds qs (with_changes (paper_of cs' ps') ((paper_of cs' ps').changes ++ (record { author = a; became = 0 } ∷ []))) → Acted cs ps (put a i s ls) ds qs (number m)
   unfolding told writes rewritten
-  put_done {cs'} {ps'} {qs} {at} {m} e f h k w note =
+  put_done {ds = ds} {qs = qs} {m = m} e f h k w note =
       let p : Paper = paper_of cs ps in
-      let row : row_of ps' ≡ p.changes = ap (λ (r : Paper). r.changes) w.paper in
-      let rows : List Change = p.changes ++ (record { author = a; became = 0 } ∷ []) in
       let t : turned (limits_of ps) (desk_of cs ps) (put a i s ls) ≡ 0 = turned_not (limits_of ps) (desk_of cs ps) (put a i s ls) good_put (there h) (fit ∙ k) in
       let new : m ≡ length p.changes = f ∙ sym (changes_counted cs ps) in
-      let done : Wrote cs ps cs' qs (rewritten p (put a i s ls)) =
-      rw (e, new) at (rowed_too cs ps cs' ps' qs (with_cells p (take at p.cells ++ (new_cells ls s m ++ drop at p.cells))) rows w
-      (subst (λ (rs : List Change). Rowed ps' qs (rs ++ (record { author = a; became = 0 } ∷ []))) row note)) in
-      rw new (wrote_it cs ps cs' qs (put a i s ls) t refl done)
+      let done : Wrote cs ps ds qs (rewritten p (put a i s ls)) = rw (e, new) at (noted_too p (λ (rs : List Change). rs ++ (record { author = a; became = 0 } ∷ [])) w note) in
+      rw new (wrote_it cs ps ds qs (put a i s ls) t refl done)

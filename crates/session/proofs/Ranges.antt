@@ -1,7 +1,11 @@
 -- Letters and numbers in range. Assumes nothing.
-use Rattle.std.proofs.Common.{◌≡◌, ℕ, ◌+◌, ◌<◌, ◌≤◌, Bool, true, false, ◌&&◌, ◌||◌, eqb, leb, List, length, get_or, drop, sym, refl, ap, ◌∙◌}
-use Rattle.std.proofs.lemmas.List.{at_drop_more, at_drop_all}
-use Rattle.model.specs.Calls.{call_number, good_call, good_fields, good_letters}
+use Rattle.std.proofs.Common.{rules, ◌≡◌, ℕ, ◌<◌, Bool, true, false, ◌&&◌, ◌||◌, eqb, leb, List, [], ◌∷◌, Ok, Err, Result, IsOk, sym, refl, ap, ◌∙◌, arith, ltb-true}
+use Rattle.std.specs.List.{list_all}
+use Rattle.model.specs.Calls.{call_number, count, good_call, good_fields, good_letters}
+use Rattle.model.specs.Values.{NumbersWay, way_number}
+use Rattle.model.specs.declared.way.UnknownWay.{UnknownWay}
+use Rattle.model.specs.declared.way.Way.{Way}
+use Rattle.model.specs.declared.way.Way.TheVariants.{Everything, Accepted, Rejected}
 use Rattle.codec.specs.Values.{meaning}
 use Rattle.codec.specs.declared.Call.{Call}
 use Rattle.codec.specs.declared.Call.TheVariants.{Put, Strike, Accept, Reject, Style, Undo, Redo, Show, Find, Count, Change, Save}
@@ -11,13 +15,11 @@ use Rattle.session.specs.Range.{in_range, is_show}
 abbrev pub good : ℕ → Bool
 good l = eqb l 10 || (leb 32 l && leb l 126)
 
-pub letters_more : (xs : List ℕ) (i : ℕ) → i < length xs → good_letters (drop i xs) ≡ (good (get_or xs i 0) && good_letters (drop (i + 1) xs))
+-- whether each letter is good, as `all` finds it
+pub all_letters : (ls : List ℕ) → list_all good ls ≡ good_letters ls
 unfolding good_letters
-letters_more xs i h = at_drop_more good_letters xs i 0 h
-
-pub letters_all : (xs : List ℕ) (i : ℕ) → length xs ≤ i → good_letters (drop i xs) ≡ true
-unfolding good_letters
-letters_all xs i h = at_drop_all good_letters xs i h
+all_letters [] = refl
+all_letters (l ∷ ls) = ap (λ (b : Bool). good l && b) (all_letters ls)
 
 -- the code's cases and the model's agree
 pub in_range_is : (c : Call) (ls : List ℕ) → in_range c ls ≡ good_fields (meaning c ls)
@@ -56,3 +58,22 @@ not_shown (Find k i) h = refl
 not_shown (Count k) h = refl
 not_shown (Change c) h = refl
 not_shown (Save i n) h = refl
+
+-- a number below 3 is that of a way to look
+pub way_found : {n : ℕ} (r : Result Way UnknownWay) → NumbersWay n r → n < 3 → IsOk r
+way_found (Ok w) h l = search rules
+way_found (Err e) h l = absurd (omega (arith, h.1))
+
+pub way_is : {n : ℕ} {r : Result Way UnknownWay} {w : Way} → r ≡ Ok w → NumbersWay n r → way_number w ≡ n
+way_is e h = rw e at h
+
+-- every way to look can be asked for
+pub way_good : (w : Way) → good_fields (count (way_number w)) ≡ true
+unfolding good_fields
+way_good Everything = refl
+way_good Accepted = refl
+way_good Rejected = refl
+
+pub count_range : (k : ℕ) → good_fields (count k) ≡ true → k < 3
+unfolding good_fields
+count_range k good = ltb-true k 3 good

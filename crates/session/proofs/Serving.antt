@@ -1,12 +1,17 @@
 -- From the desk that memory holds to every desk that memory stands for: what a call of this stage does and answers depends on the paper alone.
 -- Assumes nothing.
-use Rattle.std.proofs.Common.{◌≡◌, ℕ, ◌<◌, ◌≤◌, min, Bool, true, false, eqb, List, [], length, get_or, sym, refl, ap, ◌∙◌, subst}
+use Rattle.std.proofs.Common.{◌≡◌, ℕ, ◌<◌, ◌≤◌, min, Bool, true, false, eqb, List, [], ◌++◌, length, get_or, take, drop, Ok, Err, Result, sym, refl, ap, ◌∙◌, subst}
 use Rattle.model.specs.Paper.{pick, Paper}
 use Rattle.model.specs.Calls.{Call, put, strikes, accepts, rejects, styles, undo, redo, show, find, count, change, save, Desk, Limits, refused, call_number, turned_by, writes, moved, told, changed, turned, after, answer}
 use Rattle.codec.specs.Bytes.{answer_bytes}
 use Rattle.codec.specs.Reading.{Reading, reading, call_is, ceases}
 use Rattle.session.specs.Memory.{undo_words, limits_of, Sound, Stands}
-use Rattle.session.specs.Acts.{Wrote, desk_of, Acted}
+use Rattle.session.specs.Acts.{Wrote, desk_of, Acted, Said}
+use Rattle.session.specs.Desks.{Ended, Tried}
+use Rattle.session.specs.Refusals.{refusal_told}
+use Rattle.session.specs.declared.refusal.Refusal.{Refusal}
+use Rattle.session.specs.declared.refusal.Refusal.TheVariants.{NotACall}
+use Rattle.session.proofs.Saying.{first_bytes, first_within, said}
 use Rattle.session.specs.Contract.{Does, Done, Fit, Called}
 
 -- a desk with this paper and nothing to undo or redo
@@ -123,4 +128,53 @@ not_called cs ps us bs rs i reads sound is fit =
       limits = refl;
       beyond = record { cells = refl; pieces = refl; undo = refl; cells_length = refl; pieces_length = refl; undo_length = refl };
       fit = fit;
+    }
+
+-- the memory is the same under other names
+pub renamed : (cs ps : List ℕ) (c : Call) (cs' ps' ds qs out out' : List ℕ) (r : Result ℕ Refusal) → Ended cs ps c cs' ps' out out' r → ds ≡ cs' → qs ≡ ps' →
+    Ended cs ps c ds qs out out' r
+renamed cs ps c cs' ps' ds qs out out' r e here there = subst (λ (xs : List ℕ). Ended cs ps c xs qs out out' r) (sym here) (subst (λ (xs : List ℕ). Ended cs ps c cs' xs out out' r) (sym there) e)
+
+-- what call promises of the r bytes of its answer
+pub record Answered (cs ps us bs cs' ps' out out' : List ℕ) (r : ℕ) : Type 0 where
+  pub called : Called cs ps us bs cs' ps' us (take r out')
+  pub within : r ≤ length out
+  pub rest : drop r out' ≡ drop r out
+
+answered : {cs ps us bs cs' ps' out out' : List ℕ} {r : ℕ} (c : Call) → reading bs ≡ call_is c → undo_long ps us → Said cs ps c cs' ps' out out' r →
+    length out' ≡ length out → Fit cs' ps' us → Answered cs ps us bs cs' ps' out out' r
+answered {cs} {ps} {us} {bs} {cs'} {ps'} {out} {out'} {r} c reads long s n fit =
+    let ws : List ℕ = answer_bytes (answer (limits_of ps) (desk_of cs ps) c) in
+    let parts : (take r out' ≡ ws) × (drop r out' ≡ drop r out) = first_bytes ws out out' r s.bytes s.long in
+    record {
+      called = called cs ps us bs cs' ps' (take r out') c reads long s.acted parts.0 fit;
+      within = first_within ws out out' r s.bytes s.long n;
+      rest = parts.1;
+    }
+
+-- the answer was written
+pub answered_well : {cs ps us bs cs' ps' out out' : List ℕ} {r : ℕ} (rd : Reading) → reading bs ≡ rd → undo_long ps us → Tried cs ps rd cs' ps' out out' (Ok r) →
+    length out' ≡ length out → Fit cs' ps' us → Answered cs ps us bs cs' ps' out out' r
+answered_well (call_is c) reads long s n fit = answered c reads long s n fit
+answered_well {r = r} (ceases i) reads long t n fit = let e : Ok r ≡ Err (NotACall i) = t.0 in cc
+
+-- the refusal e is written
+pub answered_no : {cs ps us bs cs' ps' out out' : List ℕ} {r : ℕ} (mid : List ℕ) (e : Refusal) (rd : Reading) → reading bs ≡ rd → Sound cs ps us →
+    Tried cs ps rd cs' ps' out mid (Err e) → out' ≡ answer_bytes (refusal_told e) ++ drop r mid → r ≡ length (answer_bytes (refusal_told e)) →
+    length out' ≡ length mid → Fit cs' ps' us → Answered cs ps us bs cs' ps' out out' r
+answered_no {cs} {ps} {us} {bs} {cs'} {ps'} {out} {out'} {r} mid e (call_is c) reads sound t bytes long n fit =
+    let same : mid ≡ out = t.1 in
+    answered c reads sound.undo_long (said cs ps c cs' ps' out out' r (refusal_told e) t.0 (rw same at bytes) long) (rw same at n) fit
+answered_no {cs} {ps} {us} {bs} {cs'} {ps'} {out} {out'} {r} mid e (ceases i) reads sound t bytes long n fit =
+    let which : e ≡ NotACall i = cc (t.0) in
+    let ws : List ℕ = answer_bytes (refused 1 (min i 4294967295)) in
+    let same : mid ≡ out = t.3 in
+    let b : out' ≡ ws ++ drop r out = rw (which, same) at bytes in
+    let l : r ≡ length ws = rw which at long in
+    let parts : (take r out' ≡ ws) × (drop r out' ≡ drop r out) = first_bytes ws out out' r b l in
+    let fit' : Fit cs ps us = rw (t.1, t.2) at fit in
+    record {
+      called = rw (t.1, t.2) (not_called cs ps us bs (take r out') i reads sound parts.0 fit');
+      within = first_within ws out out' r b l (rw same at n);
+      rest = parts.1;
     }

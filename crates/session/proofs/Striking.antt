@@ -7,14 +7,12 @@ use Rattle.sweep.specs.declared.Action.{Action}
 use Rattle.sweep.specs.declared.Action.TheVariants.{Strike, Style}
 use Rattle.sweep.specs.Sweep.{goes, changed, fate, swept, swept_run}
 use Rattle.sweep.proofs.Laws.{one_meaning}
-use Rattle.pieces.specs.Store.{before}
-use Rattle.pieces.proofs.Texts.{length_text}
 use Rattle.changes.proofs.Steps.{length_changes}
-use Rattle.session.specs.Memory.{limits_of, slots_of, tables, paper_of, Held}
-use Rattle.session.specs.Acts.{Wrote, desk_of, Acted, Rowed, allows, row_of, with_cells}
+use Rattle.session.specs.Memory.{limits_of, paper_of, Held}
+use Rattle.session.specs.Acts.{Wrote, desk_of, Acted, allows, with_cells, with_changes}
 use Rattle.session.proofs.Acting.{turned_first, turned_last, turned_not, refuses, wrote_it}
 use Rattle.session.proofs.Putting.{both_true}
-use Rattle.session.proofs.Writing.{rowed_too}
+use Rattle.session.proofs.Writing.{noted_too}
 
 -- a sweep makes no text longer
 pub length_swept : (a : Action) (cs : List Change) (xs : List Cell) → length (swept a cs xs) ≤ length xs
@@ -47,9 +45,6 @@ pub allowed_more : (ps : List ℕ) (cells : ℕ) → allows ps cells ≡ true �
 allowed_more ps cells k = ltb-true (get_or ps 3 0) (get_or ps 1 0) (both_true (leb cells (get_or ps 0 0)) (ltb (get_or ps 3 0) (get_or ps 1 0)) k).1
 
 module _ (cs ps : List ℕ) (held : Held cs ps) where
-  pub cells_there : length (paper_of cs ps).cells ≡ before (tables ps) (slots_of ps)
-  cells_there = length_text cs (tables ps) (slots_of ps)
-
   changes_there : length (paper_of cs ps).changes ≡ get_or ps 3 0
   changes_there = length_changes (drop 16 ps) 0 (get_or ps 3 0)
 
@@ -61,71 +56,71 @@ module _ (cs ps : List ℕ) (held : Held cs ps) where
     unfolding call_number
     good_strike = good
 
-    struck_there : (b : Bool) → leb (i + n) (before (tables ps) (slots_of ps)) ≡ b → turned_by (desk_of cs ps) (strikes a i n) ≡ pick b 0 4
+    struck_there : (b : Bool) → leb (i + n) (length (paper_of cs ps).cells) ≡ b → turned_by (desk_of cs ps) (strikes a i n) ≡ pick b 0 4
     unfolding turned_by
-    struck_there b h = rw cells_there (rw h refl)
+    struck_there b h = rw h refl
 
-    struck_is : (rewritten (paper_of cs ps) (strikes a i n)).cells ≡ swept_run (Strike a (get_or ps 3 0)) (paper_of cs ps).changes (paper_of cs ps).cells i n
+    struck_is : (rewritten (paper_of cs ps) (strikes a i n)).cells ≡ swept_run (Strike a (suc (get_or ps 3 0))) (paper_of cs ps).changes (paper_of cs ps).cells i n
     unfolding rewritten
     struck_is =
         (one_meaning (paper_of cs ps).changes (paper_of cs ps).cells).2 i n a (length (paper_of cs ps).changes)
-        ∙ ap (λ (m : ℕ). swept_run (Strike a m) (paper_of cs ps).changes (paper_of cs ps).cells i n) changes_there
+        ∙ ap (λ (m : ℕ). swept_run (Strike a (suc m)) (paper_of cs ps).changes (paper_of cs ps).cells i n) changes_there
 
-    struck_fit : leb (i + n) (before (tables ps) (slots_of ps)) ≡ true → fits (limits_of ps) (rewritten (paper_of cs ps) (strikes a i n)) ≡ allows ps (before (tables ps) (slots_of ps))
+    struck_fit : leb (i + n) (length (paper_of cs ps).cells) ≡ true → fits (limits_of ps) (rewritten (paper_of cs ps) (strikes a i n)) ≡ allows ps (length (paper_of cs ps).cells)
     unfolding rewritten
     struck_fit h =
-        let inside : i + n ≤ length (paper_of cs ps).cells = omega (arith, leb-true (i + n) (before (tables ps) (slots_of ps)) h, cells_there) in
+        let inside : i + n ≤ length (paper_of cs ps).cells = omega (arith, leb-true (i + n) (length (paper_of cs ps).cells) h) in
         let ys : List Cell = (rewritten (paper_of cs ps) (strikes a i n)).cells in
         let short : length ys ≤ length (paper_of cs ps).cells =
         subst (λ (zs : List Cell). length zs ≤ length (paper_of cs ps).cells) (sym struck_is)
-        (length_swept_run (Strike a (get_or ps 3 0)) (paper_of cs ps).changes (paper_of cs ps).cells i n inside) in
-        let x : leb (length ys) (get_or ps 0 0) ≡ leb (before (tables ps) (slots_of ps)) (get_or ps 0 0) =
-        few_enough ys short ∙ sym (le-leb (before (tables ps) (slots_of ps)) (get_or ps 0 0) (omega (arith, held.cells_fit, cells_there))) in
+        (length_swept_run (Strike a (suc (get_or ps 3 0))) (paper_of cs ps).changes (paper_of cs ps).cells i n inside) in
+        let x : leb (length ys) (get_or ps 0 0) ≡ leb (length (paper_of cs ps).cells) (get_or ps 0 0) =
+        few_enough ys short ∙ sym (le-leb (length (paper_of cs ps).cells) (get_or ps 0 0) (omega (arith, held.cells_fit))) in
         let y : length (rewritten (paper_of cs ps) (strikes a i n)).changes ≡ suc (get_or ps 3 0) =
         length-append (paper_of cs ps).changes (record { author = a; became = 0 } ∷ []) ∙ omega (arith, changes_there) in
         ap₂ ◌&&◌ x (ap (λ (m : ℕ). leb m (get_or ps 1 0)) y)
 
-    pub strike_nowhere : leb (i + n) (before (tables ps) (slots_of ps)) ≡ false → Acted cs ps (strikes a i n) cs ps (refused 4 1)
+    pub strike_nowhere : leb (i + n) (length (paper_of cs ps).cells) ≡ false → Acted cs ps (strikes a i n) cs ps (refused 4 1)
     unfolding place
     strike_nowhere h = refuses cs ps (strikes a i n) 3 held (turned_first (limits_of ps) (desk_of cs ps) (strikes a i n) 3 good_strike (struck_there false h))
 
-    pub strike_too_much : leb (i + n) (before (tables ps) (slots_of ps)) ≡ true → allows ps (before (tables ps) (slots_of ps)) ≡ false → Acted cs ps (strikes a i n) cs ps (refused 9 0)
+    pub strike_too_much : leb (i + n) (length (paper_of cs ps).cells) ≡ true → allows ps (length (paper_of cs ps).cells) ≡ false → Acted cs ps (strikes a i n) cs ps (refused 9 0)
     unfolding place
     strike_too_much h k = refuses cs ps (strikes a i n) 8 held (turned_last (limits_of ps) (desk_of cs ps) (strikes a i n) good_strike (struck_there true h) (struck_fit h ∙ k))
 
-    pub strike_done : (cs' ps' qs : List ℕ) → leb (i + n) (before (tables ps) (slots_of ps)) ≡ true → allows ps (before (tables ps) (slots_of ps)) ≡ true →
-        Wrote cs ps cs' ps' (with_cells (paper_of cs ps) (swept_run (Strike a (get_or ps 3 0)) (paper_of cs ps).changes (paper_of cs ps).cells i n)) →
-        Rowed ps' qs (row_of ps' ++ (record { author = a; became = 0 } ∷ [])) → Acted cs ps (strikes a i n) cs' qs (number (get_or ps 3 0))
+    pub strike_done : {cs' ps' ds qs : List ℕ} {at m mark : ℕ} → at ≡ i → m ≡ get_or ps 3 0 → mark ≡ suc m → leb (i + n) (length (paper_of cs ps).cells) ≡ true → allows ps (length (paper_of cs ps).cells) ≡ true →
+        Wrote cs ps cs' ps' (with_cells (paper_of cs ps) (swept_run (Strike a mark) (paper_of cs ps).changes (paper_of cs ps).cells at n)) →
+        Wrote cs' ps' ds qs (with_changes (paper_of cs' ps') ((paper_of cs' ps').changes ++ (record { author = a; became = 0 } ∷ []))) → Acted cs ps (strikes a i n) ds qs (number m)
     unfolding told writes rewritten
-    strike_done cs' ps' qs h k w note =
+    strike_done {cs' = cs'} {ps' = ps'} {ds = ds} {qs = qs} {at = at} {m = m} {mark = mark} e f g h k w note =
         let p : Paper = paper_of cs ps in
-        let xs : List Cell = swept_run (Strike a (get_or ps 3 0)) p.changes p.cells i n in
+        let is : mark ≡ suc (get_or ps 3 0) = g ∙ ap suc f in
+        let here : Wrote cs ps cs' ps' (with_cells p (swept_run (Strike a (suc (get_or ps 3 0))) p.changes p.cells i n)) = rw (is, e) at w in
         let rows : List Change = p.changes ++ (record { author = a; became = 0 } ∷ []) in
-        let row : row_of ps' ≡ p.changes = ap (λ (r : Paper). r.changes) w.paper in
         let t : turned (limits_of ps) (desk_of cs ps) (strikes a i n) ≡ 0 =
         turned_not (limits_of ps) (desk_of cs ps) (strikes a i n) good_strike (struck_there true h) (struck_fit h ∙ k) in
-        let all : Wrote cs ps cs' qs (record { cells = xs; changes = rows }) =
-        rowed_too cs ps cs' ps' qs (with_cells p xs) rows w (subst (λ (rs : List Change). Rowed ps' qs (rs ++ (record { author = a; became = 0 } ∷ []))) row note) in
-        let done : Wrote cs ps cs' qs (rewritten p (strikes a i n)) = subst (λ (ys : List Cell). Wrote cs ps cs' qs (record { cells = ys; changes = rows })) (sym struck_is) all in
-        subst (λ (m : ℕ). Acted cs ps (strikes a i n) cs' qs (number m)) changes_there (wrote_it cs ps cs' qs (strikes a i n) t refl done)
+        let done : Wrote cs ps ds qs (rewritten p (strikes a i n)) =
+        subst (λ (ys : List Cell). Wrote cs ps ds qs (record { cells = ys; changes = rows })) (sym struck_is)
+        (noted_too p (λ (rs : List Change). rs ++ (record { author = a; became = 0 } ∷ [])) here note) in
+        subst (λ (k : ℕ). Acted cs ps (strikes a i n) ds qs (number k)) (changes_there ∙ sym f) (wrote_it cs ps ds qs (strikes a i n) t refl done)
 
   module _ (i n s : ℕ) (good : good_fields (styles i n s) ≡ true) where
     good_style : good_call (limits_of ps) (styles i n s) ≡ true
     unfolding call_number
     good_style = good
 
-    styled_there : (b : Bool) → leb (i + n) (before (tables ps) (slots_of ps)) ≡ b → turned_by (desk_of cs ps) (styles i n s) ≡ pick b 0 4
+    styled_there : (b : Bool) → leb (i + n) (length (paper_of cs ps).cells) ≡ b → turned_by (desk_of cs ps) (styles i n s) ≡ pick b 0 4
     unfolding turned_by
-    styled_there b h = rw cells_there (rw h refl)
+    styled_there b h = rw h refl
 
     styled_is : (rewritten (paper_of cs ps) (styles i n s)).cells ≡ swept_run (Style s) (paper_of cs ps).changes (paper_of cs ps).cells i n
     unfolding rewritten
     styled_is = (one_meaning (paper_of cs ps).changes (paper_of cs ps).cells).3 i n s
 
-    styled_fit : leb (i + n) (before (tables ps) (slots_of ps)) ≡ true → fits (limits_of ps) (rewritten (paper_of cs ps) (styles i n s)) ≡ true
+    styled_fit : leb (i + n) (length (paper_of cs ps).cells) ≡ true → fits (limits_of ps) (rewritten (paper_of cs ps) (styles i n s)) ≡ true
     unfolding rewritten
     styled_fit h =
-        let inside : i + n ≤ length (paper_of cs ps).cells = omega (arith, leb-true (i + n) (before (tables ps) (slots_of ps)) h, cells_there) in
+        let inside : i + n ≤ length (paper_of cs ps).cells = omega (arith, leb-true (i + n) (length (paper_of cs ps).cells) h) in
         let ys : List Cell = (rewritten (paper_of cs ps) (styles i n s)).cells in
         let short : length ys ≤ length (paper_of cs ps).cells =
         subst (λ (zs : List Cell). length zs ≤ length (paper_of cs ps).cells) (sym styled_is)
@@ -133,14 +128,14 @@ module _ (cs ps : List ℕ) (held : Held cs ps) where
         let y : leb (length (paper_of cs ps).changes) (get_or ps 1 0) ≡ true = le-leb (length (paper_of cs ps).changes) (get_or ps 1 0) (omega (arith, held.changes_fit, changes_there)) in
         ap₂ ◌&&◌ (few_enough ys short) y
 
-    pub style_nowhere : leb (i + n) (before (tables ps) (slots_of ps)) ≡ false → Acted cs ps (styles i n s) cs ps (refused 4 0)
+    pub style_nowhere : leb (i + n) (length (paper_of cs ps).cells) ≡ false → Acted cs ps (styles i n s) cs ps (refused 4 0)
     unfolding place
     style_nowhere h = refuses cs ps (styles i n s) 3 held (turned_first (limits_of ps) (desk_of cs ps) (styles i n s) 3 good_style (styled_there false h))
 
-    pub style_done : (cs' ps' : List ℕ) → leb (i + n) (before (tables ps) (slots_of ps)) ≡ true →
-        Wrote cs ps cs' ps' (with_cells (paper_of cs ps) (swept_run (Style s) (paper_of cs ps).changes (paper_of cs ps).cells i n)) → Acted cs ps (styles i n s) cs' ps' (number n)
+    pub style_done : {cs' ps' : List ℕ} {at : ℕ} → at ≡ i → leb (i + n) (length (paper_of cs ps).cells) ≡ true →
+        Wrote cs ps cs' ps' (with_cells (paper_of cs ps) (swept_run (Style s) (paper_of cs ps).changes (paper_of cs ps).cells at n)) → Acted cs ps (styles i n s) cs' ps' (number n)
     unfolding told writes rewritten
-    style_done cs' ps' h w =
+    style_done {cs' = cs'} {ps' = ps'} e h w =
         let t : turned (limits_of ps) (desk_of cs ps) (styles i n s) ≡ 0 =
         turned_not (limits_of ps) (desk_of cs ps) (styles i n s) good_style (styled_there true h) (styled_fit h) in
-        wrote_it cs ps cs' ps' (styles i n s) t refl (subst (λ (ys : List Cell). Wrote cs ps cs' ps' (with_cells (paper_of cs ps) ys)) (sym styled_is) w)
+        wrote_it cs ps cs' ps' (styles i n s) t refl (subst (λ (ys : List Cell). Wrote cs ps cs' ps' (with_cells (paper_of cs ps) ys)) (sym styled_is) (rw e at w))

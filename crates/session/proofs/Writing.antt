@@ -1,15 +1,15 @@
 -- What a write to the store, and a change that is noted, leave in memory. Assumes nothing.
-use Rattle.std.proofs.Common.{◌≡◌, ℕ, suc, ◌+◌, ◌-◌, ◌*◌, ◌<◌, ◌≤◌, List, [], ◌∷◌, ◌++◌, length, get_or, take, drop, sym, refl, ap, ◌∙◌, subst, arith}
+use Rattle.std.proofs.Common.{◌≡◌, ℕ, suc, ◌+◌, ◌-◌, ◌*◌, ◌<◌, ◌≤◌, List, [], ◌∷◌, ◌++◌, length, get_or, take, drop, set, sym, refl, ap, ◌∙◌, subst, ap₂, arith}
 use borrow.Rule.Slice.PartMut.{put_mid}
-use Rattle.std.proofs.lemmas.List.{length-append, length-take-le, length-drop, drop-drop, get_or-drop, take-append-drop}
+use Rattle.std.proofs.lemmas.List.{length-append, length-take-le, length-drop, drop-drop, get_or-drop, get_or-take, take-append-drop, take_rest}
 use Rattle.model.specs.Paper.{Cell, Change, Paper, new_cells}
-use Rattle.model.specs.Calls.{Limits}
+use Rattle.model.specs.Calls.{Limits, with_became}
 use Rattle.changes.specs.Row.{changes_of}
 use Rattle.changes.proofs.Steps.{changes_same}
 use Rattle.pieces.specs.Store.{Edited, Store, Frame, cells_of}
-use Rattle.session.specs.Memory.{slots_for, limits_of, tables, paper_of, Held}
-use Rattle.session.specs.Acts.{Wrote, Rowed, with_cells}
-use Rattle.session.proofs.Heads.{lent, lent_before, lent_after}
+use Rattle.session.specs.Memory.{cells_words, pieces_words, slots_for, slots_of, limits_of, tables, paper_of, Held}
+use Rattle.session.specs.Acts.{Wrote, Rowed, row_of, with_cells, with_changes}
+use Rattle.session.proofs.Heads.{judged, lent_before, lent_after, noted}
 
 pub length_new : (ls : List ℕ) (s c : ℕ) → length (new_cells ls s c) ≡ length ls
 unfolding new_cells
@@ -25,17 +25,20 @@ inserted_length xs ls i s c =
     omega arith
 
 -- the store was written, and the words before its tables stayed
-pub restored : (cs ps cs' t : List ℕ) (xs : List Cell) → Held cs ps → let b : ℕ = 16 + 2 * get_or ps 1 0 in let s : ℕ = slots_for (get_or ps 0 0) in
-    Store cs' t s → Frame cs (tables ps) cs' t s → cells_of cs' t s ≡ xs → length xs ≤ get_or ps 0 0 →
-    Wrote cs ps cs' (put_mid b (length ps - b) ps t) (with_cells (paper_of cs ps) xs)
-restored cs ps cs' t xs held store frame text few =
+pub restored : {cs ps cs' t ds head td : List ℕ} {xs : List Cell} → Held cs ps → let b : ℕ = 16 + 2 * get_or ps 1 0 in
+    Edited cs (tables ps) cs' t (slots_of ps) xs → length xs ≤ get_or ps 0 0 → head ≡ take b ps → ds ≡ cs' → td ≡ t →
+    Wrote cs ps ds (head ++ td) (with_cells (paper_of cs ps) xs)
+restored {cs = cs} {ps = ps} {cs' = cs'} {t = t} {ds = ds} {head = head} {td = td} {xs = xs} held edited few before here there =
+    let q : List ℕ = head ++ td in
+    let is : q ≡ take (16 + 2 * get_or ps 1 0) ps ++ t = ap₂ ◌++◌ before there in
     let n : ℕ = get_or ps 0 0 in
     let c : ℕ = get_or ps 1 0 in
     let b : ℕ = 16 + 2 * c in
     let s : ℕ = slots_for n in
-    let q : List ℕ = put_mid b (length ps - b) ps t in
-    let start : b ≤ length ps = omega arith in
-    let is : q ≡ take b ps ++ t = lent b ps t start in
+    let store : Store ds t s = rw here edited.store in
+    let frame : Frame cs (tables ps) ds t s = rw here edited.frame in
+    let text : cells_of ds t s ≡ xs = rw here edited.text in
+    let start : b ≤ length ps = omega (arith, held.pieces_long) in
     let same : (i : ℕ) → i < b → get_or q i 0 ≡ get_or ps i 0 = λ i h. ap (λ (ws : List ℕ). get_or ws i 0) is ∙ lent_before b ps t i start h in
     let g0 : get_or q 0 0 ≡ n = same 0 (omega arith) in
     let g1 : get_or q 1 0 ≡ c = same 1 (omega arith) in
@@ -51,12 +54,12 @@ restored cs ps cs' t xs held store frame text few =
     changes_same (drop 16 q) (drop 16 ps) 0 (get_or ps 3 0)
     (λ i low high. get_or-drop 16 q i 0 ∙ (same (16 + i) (omega (arith, held.changes_fit)) ∙ sym (get_or-drop 16 ps i 0))) in
     let row' : changes_of (drop 16 q) (get_or q 3 0) ≡ changes_of (drop 16 ps) (get_or ps 3 0) = ap (λ (k : ℕ). changes_of (drop 16 q) k) g3 ∙ row in
-    let cells : cells_of cs' (tables q) (slots_for (get_or q 0 0)) ≡ xs = rw (tab, slots) text in
+    let cells : cells_of ds (tables q) (slots_for (get_or q 0 0)) ≡ xs = rw (tab, slots) text in
     let e : 10256 + 2 * c ≡ b + 10240 = omega arith in
     let past : drop (10256 + 2 * c) q ≡ drop (10256 + 2 * c) ps =
     ap (λ (k : ℕ). drop k q) e ∙ (sym (drop-drop 10240 b q) ∙ (ap (drop 10240) back ∙ (frame.words_past ∙ (drop-drop 10240 b ps ∙ ap (λ (k : ℕ). drop k ps) (sym e))))) in
     let limits : limits_of q ≡ limits_of ps = cc in
-    let size : length cs' ≡ length cs = frame.cells_long in
+    let size : length ds ≡ length cs = frame.cells_long in
     record {
       held = record {
         few_cells = omega (arith, held.few_cells);
@@ -76,36 +79,31 @@ restored cs ps cs' t xs held store frame text few =
       pieces_length = long;
     }
 
--- the same where a function that knows the whole slice wrote the tables alone
-pub swept_too : (cs ps cs' ps' : List ℕ) (xs : List Cell) → Held cs ps → let b : ℕ = 16 + 2 * get_or ps 1 0 in let s : ℕ = slots_for (get_or ps 0 0) in
-    Edited cs (tables ps) cs' (drop b ps') s xs → take b ps' ≡ take b ps → length xs ≤ get_or ps 0 0 → Wrote cs ps cs' ps' (with_cells (paper_of cs ps) xs)
-swept_too cs ps cs' ps' xs held edited head few =
+-- the row of changes as it stands before the tables
+pub row_before : (ps head : List ℕ) → head ≡ take (16 + 2 * get_or ps 1 0) ps → get_or ps 3 0 ≤ get_or ps 1 0 →
+    changes_of (take (length head - 16) (drop 16 head)) (get_or head 3 0) ≡ changes_of (drop 16 ps) (get_or ps 3 0)
+row_before ps head is few =
     let b : ℕ = 16 + 2 * get_or ps 1 0 in
-    let start : b ≤ length ps = omega (arith, held.pieces_long) in
-    let is : put_mid b (length ps - b) ps (drop b ps') ≡ ps' =
-    lent b ps (drop b ps') start ∙ (ap (λ (ws : List ℕ). ws ++ drop b ps') (sym head) ∙ take-append-drop b ps') in
-    subst (λ (qs : List ℕ). Wrote cs ps cs' qs (with_cells (paper_of cs ps) xs)) is (restored cs ps cs' (drop b ps') xs held edited.store edited.frame edited.text few)
+    let at : (i : ℕ) → i < b → get_or head i 0 ≡ get_or ps i 0 = λ i h. ap (λ (ws : List ℕ). get_or ws i 0) is ∙ get_or-take b ps i 0 h in
+    rw take_rest
+    (ap (λ (k : ℕ). changes_of (drop 16 head) k) (at 3 (omega arith))
+    ∙ changes_same (drop 16 head) (drop 16 ps) 0 (get_or ps 3 0)
+    (λ i low high. get_or-drop 16 head i 0 ∙ (at (16 + i) (omega arith) ∙ sym (get_or-drop 16 ps i 0))))
 
--- the row of changes was written after that
-pub rowed_too : (cs ps cs' ps' qs : List ℕ) (p : Paper) (rows : List Change) → Wrote cs ps cs' ps' p → Rowed ps' qs rows →
-    Wrote cs ps cs' qs (record { cells = p.cells; changes = rows })
-rowed_too cs ps cs' ps' qs p rows w note =
-    let held : Held cs' ps' = w.held in
-    let g0 : get_or qs 0 0 ≡ get_or ps' 0 0 = ap (λ (l : Limits). l.cells) note.limits in
-    let g1 : get_or qs 1 0 ≡ get_or ps' 1 0 = ap (λ (l : Limits). l.changes) note.limits in
-    let g2 : get_or qs 2 0 ≡ get_or ps' 2 0 = ap (λ (l : Limits). l.undos) note.limits in
-    let h1 : get_or ps' 1 0 ≡ get_or ps 1 0 = ap (λ (l : Limits). l.changes) w.limits in
-    let slots : slots_for (get_or qs 0 0) ≡ slots_for (get_or ps' 0 0) = ap slots_for g0 in
-    let cells : cells_of cs' (tables qs) (slots_for (get_or qs 0 0)) ≡ (paper_of cs' ps').cells = rw (note.tables, slots) refl in
-    let paper : paper_of cs' ps' ≡ p = w.paper in
-    let xs : (paper_of cs' ps').cells ≡ p.cells = ap (λ (r : Paper). r.cells) paper in
+-- the row of changes was written
+rowed : (cs ps qs : List ℕ) (rows : List Change) → Held cs ps → Rowed ps qs rows → Wrote cs ps cs qs (with_changes (paper_of cs ps) rows)
+rowed cs ps qs rows held note =
+    let g0 : get_or qs 0 0 ≡ get_or ps 0 0 = ap (λ (l : Limits). l.cells) note.limits in
+    let g1 : get_or qs 1 0 ≡ get_or ps 1 0 = ap (λ (l : Limits). l.changes) note.limits in
+    let g2 : get_or qs 2 0 ≡ get_or ps 2 0 = ap (λ (l : Limits). l.undos) note.limits in
+    let slots : slots_for (get_or qs 0 0) ≡ slots_for (get_or ps 0 0) = ap slots_for g0 in
+    let cells : cells_of cs (tables qs) (slots_for (get_or qs 0 0)) ≡ (paper_of cs ps).cells = rw (note.tables, slots) refl in
     let c : ℕ = get_or ps 1 0 in
     let b : ℕ = 16 + 2 * c in
     let e : 10256 + 2 * c ≡ b + 10240 = omega arith in
-    let tq : drop b qs ≡ tables qs = ap (λ (k : ℕ). drop (16 + 2 * k) qs) (sym (g1 ∙ h1)) in
-    let tp : tables ps' ≡ drop b ps' = ap (λ (k : ℕ). drop (16 + 2 * k) ps') h1 in
+    let tq : drop b qs ≡ tables qs = ap (λ (k : ℕ). drop (16 + 2 * k) qs) (sym g1) in
     let past : drop (10256 + 2 * c) qs ≡ drop (10256 + 2 * c) ps =
-    ap (λ (k : ℕ). drop k qs) e ∙ (sym (drop-drop 10240 b qs) ∙ (ap (drop 10240) (tq ∙ (note.tables ∙ tp)) ∙ (drop-drop 10240 b ps' ∙ (ap (λ (k : ℕ). drop k ps') (sym e) ∙ w.pieces_beyond)))) in
+    ap (λ (k : ℕ). drop k qs) e ∙ (sym (drop-drop 10240 b qs) ∙ (ap (drop 10240) (tq ∙ note.tables) ∙ (drop-drop 10240 b ps ∙ ap (λ (k : ℕ). drop k ps) (sym e)))) in
     record {
       held = record {
         few_cells = omega (arith, held.few_cells);
@@ -117,10 +115,50 @@ rowed_too cs ps cs' ps' qs p rows w note =
         cells_fit = rw (cells, g0) held.cells_fit;
         changes_fit = note.fits;
       };
-      limits = note.limits ∙ w.limits;
+      limits = note.limits;
       paper = let ys = note.changes in cc;
-      cells_beyond = w.cells_beyond;
+      cells_beyond = refl;
       pieces_beyond = past;
-      cells_length = w.cells_length;
-      pieces_length = note.words ∙ w.pieces_length;
+      cells_length = refl;
+      pieces_length = note.words;
     }
+
+-- one change more was written
+pub added : {cs ps : List ℕ} (w : List ℕ) (a : ℕ) → Held cs ps → let n : ℕ = get_or ps 3 0 in let xs : List ℕ = take (length ps - 16) (drop 16 ps) in
+    n < get_or ps 1 0 → w ≡ set (set xs (2 * n) a) (2 * n + 1) 0 → changes_of w (n + 1) ≡ changes_of xs n ++ (record { author = a; became = 0 } ∷ []) →
+    Wrote cs ps cs (set (put_mid 16 (length ps - 16) ps w) 3 (n + 1)) (with_changes (paper_of cs ps) (row_of ps ++ (record { author = a; became = 0 } ∷ [])))
+added {cs} {ps} w a held less is row =
+    let n : ℕ = get_or ps 3 0 in
+    let long : 16 + 2 * get_or ps 1 0 ≤ length ps = omega (arith, held.pieces_long) in
+    rowed cs ps (set (put_mid 16 (length ps - 16) ps w) 3 (n + 1)) (row_of ps ++ (record { author = a; became = 0 } ∷ [])) held
+    (noted ps w a less long (simp take_rest at is) (simp take_rest at row))
+
+-- what became of a change was written
+pub decided : {cs ps : List ℕ} (w : List ℕ) (k b : ℕ) → Held cs ps → let n : ℕ = get_or ps 3 0 in let xs : List ℕ = take (length ps - 16) (drop 16 ps) in
+    k < n → w ≡ set xs (2 * k + 1) b → changes_of w n ≡ with_became (changes_of xs n) k b →
+    Wrote cs ps cs (put_mid 16 (length ps - 16) ps w) (with_changes (paper_of cs ps) (with_became (row_of ps) k b))
+decided {cs} {ps} w k b held there is row =
+    let long : 16 + 2 * get_or ps 1 0 ≤ length ps = omega (arith, held.pieces_long) in
+    rowed cs ps (put_mid 16 (length ps - 16) ps w) (with_became (row_of ps) k b) held
+    (judged ps w k b there held.changes_fit long (simp take_rest at is) (simp take_rest at row))
+
+-- two writes, one after the other
+wrote_twice : {cs ps cs' ps' ds qs : List ℕ} {p q : Paper} → Wrote cs ps cs' ps' p → Wrote cs' ps' ds qs q → Wrote cs ps ds qs q
+wrote_twice {cs} {ps} {cs'} {ps'} {ds} {qs} v w =
+    let g0 : get_or ps' 0 0 ≡ get_or ps 0 0 = ap (λ (l : Limits). l.cells) v.limits in
+    let g1 : get_or ps' 1 0 ≡ get_or ps 1 0 = ap (λ (l : Limits). l.changes) v.limits in
+    record {
+      held = w.held;
+      limits = w.limits ∙ v.limits;
+      paper = w.paper;
+      cells_beyond = subst (λ (n : ℕ). drop (cells_words n) ds ≡ drop (cells_words n) cs') g0 w.cells_beyond ∙ v.cells_beyond;
+      pieces_beyond = subst (λ (n : ℕ). drop (pieces_words n) qs ≡ drop (pieces_words n) ps') g1 w.pieces_beyond ∙ v.pieces_beyond;
+      cells_length = w.cells_length ∙ v.cells_length;
+      pieces_length = w.pieces_length ∙ v.pieces_length;
+    }
+
+-- the cells were written, and then the row of changes
+pub noted_too : {cs ps cs' ps' ds qs : List ℕ} {xs : List Cell} (p : Paper) (rows : List Change → List Change) → Wrote cs ps cs' ps' (with_cells p xs) →
+    Wrote cs' ps' ds qs (with_changes (paper_of cs' ps') (rows (paper_of cs' ps').changes)) → Wrote cs ps ds qs (record { cells = xs; changes = rows p.changes })
+noted_too {cs} {ps} {cs'} {ps'} {ds} {qs} p rows v w =
+    subst (λ (r : Paper). Wrote cs ps ds qs (with_changes r (rows r.changes))) v.paper (wrote_twice v w)

@@ -4,8 +4,8 @@ use Rattle.model.specs.Paper.{Cell, Change, Paper}
 use Rattle.model.specs.Calls.{Call, accepts, rejects, Answer, Desk, turned, after, answer}
 use Rattle.sweep.specs.declared.Action.{Action}
 use Rattle.sweep.specs.declared.Action.TheVariants.{Accept, Reject}
-use Rattle.session.specs.declared.deciding.Verdict.{Verdict}
-use Rattle.session.specs.declared.deciding.Verdict.TheVariants.{Accepted, Rejected}
+use Rattle.model.specs.declared.verdict.Verdict.{Verdict}
+use Rattle.model.specs.declared.verdict.Verdict.TheVariants.{Accepted, Rejected}
 use Rattle.codec.specs.Bytes.{answer_bytes}
 use Rattle.changes.specs.Row.{changes_of}
 use Rattle.session.specs.Memory.{cells_words, pieces_words, limits_of, tables as tables_of, paper_of, Held}
@@ -46,6 +46,10 @@ row_of ps = changes_of (drop 16 ps) (slice_index ps 3)
 abbrev pub with_cells : Paper → List Cell → Paper
 with_cells p xs = record { cells = xs; changes = p.changes }
 
+-- the paper p with another row of changes
+abbrev pub with_changes : Paper → List Change → Paper
+with_changes p rows = record { cells = p.cells; changes = rows }
+
 -- the limits allow one change more, and so many cells
 abbrev pub allows : List ℕ → ℕ → Bool
 allows ps cells = nat_le cells (slice_index ps 0) && nat_lt (slice_index ps 3) (slice_index ps 1)
@@ -56,15 +60,12 @@ pub record Said (cs ps : List ℕ) (c : Call) (cs' ps' out out' : List ℕ) (r :
   pub bytes : out' ≡ answer_bytes (answer (limits_of ps) (desk_of cs ps) c) ++ drop r out
   pub long : r ≡ length (answer_bytes (answer (limits_of ps) (desk_of cs ps) c))
 
--- the call that a verdict is, and what then became of the change
+-- the call that a verdict is
 abbrev pub verdict_call : Verdict → ℕ → Call
 verdict_call Accepted c = accepts c
 verdict_call Rejected c = rejects c
 
-abbrev pub verdict_became : Verdict → ℕ
-verdict_became Accepted = 1
-verdict_became Rejected = 2
-
+-- what it does to the cells
 abbrev pub verdict_action : Verdict → ℕ → Action
 verdict_action Accepted c = Accept c
 verdict_action Rejected c = Reject c

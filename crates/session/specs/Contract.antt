@@ -5,7 +5,8 @@ use Rattle.model.specs.Calls.{Call, refused, Desk, Limits, turned, after, answer
 use Rattle.codec.specs.Bytes.{answer_bytes}
 use Rattle.codec.specs.Reading.{Reading, reading, call_is, ceases}
 use Rattle.session.specs.Memory.{cells_words, pieces_words, undo_words, limits_of, Sound, Stands, opened_cells, opened_pieces, opened_undo}
-use Rattle.session.specs.declared.Refusal.{Refusal}
+use Rattle.session.specs.declared.refusal.Refusal.{Refusal}
+use Rattle.session.specs.declared.refusal.Refusal.TheVariants.{LimitsOutOfRange, TooLittleMemory}
 
 -- A call that can be read, at a desk that memory stands for: memory then stands for the desk after it, the answer is the desk's, and a
 -- call that is turned away has changed no word.
@@ -57,8 +58,8 @@ pub record Opened (n c u : ℕ) (cs ps us cs' ps' us' : List ℕ) : Type 0 where
   pub stands : Stands cs' ps' us' new_desk
   pub fit : Fit cs' ps' us'
 
--- What open does: it refuses by 3, at 1 for limits out of range and else at 0 for too little memory, and changes no word; or it opens.
+-- What open does: it refuses limits out of range (3 at 1), and else too little memory (3 at 0), and changes no word; or it opens.
 abbrev pub Opening : Result (Unit {0}) Refusal → (n c u : ℕ) (cs ps us cs' ps' us' : List ℕ) → Type 0
 Opening (Ok _) n c u cs ps us cs' ps' us' = (good_limits n c u && enough n c u cs ps us ≡ true) × Opened n c u cs ps us cs' ps' us'
 Opening (Err r) n c u cs ps us cs' ps' us' =
-    (good_limits n c u && enough n c u cs ps us ≡ false) × (r ≡ record { number = 3; place = pick (good_limits n c u) 0 1 }) × (cs' ≡ cs) × (ps' ≡ ps) × (us' ≡ us)
+    (good_limits n c u && enough n c u cs ps us ≡ false) × (r ≡ pick (good_limits n c u) TooLittleMemory LimitsOutOfRange) × (cs' ≡ cs) × (ps' ≡ ps) × (us' ≡ us)

@@ -2,55 +2,64 @@
 // comes as bytes and writes the answer as bytes. What memory holds, and what each promises of it, is in specs/.
 #![tactic(auto)]
 
-ghost use Rattle.std.specs.Prelude.{◌≡◌, ◌+◌, ◌*◌, ◌<◌, ◌≤◌, min, true, false, [], ◌∷◌, ◌++◌, length, take, drop, replicate, Some, None, nat_le, slice_index};
-ghost use Rattle.model.specs.Paper.{new_cells};
-ghost use Rattle.pieces.specs.Store.{Table, before};
-ghost use Rattle.session.specs.Acts.{Acted, Rowed, Said, Wrote, allows, row_of, with_cells};
-ghost use Rattle.model.specs.Calls.{count as counts, good_fields, put as puts, show as shows};
-ghost use Rattle.codec.specs.Values.{meaning, told};
-ghost use Rattle.session.specs.Contract.{Called, Opening};
+ghost use Rattle.std.specs.Prelude.{◌≡◌, ◌+◌, ◌*◌, ◌≤◌, ◌&&◌, ◌∷◌, ◌++◌, length, take, drop, replicate, nat_le};
+ghost use Rattle.codec.specs.Reading.{reading};
+ghost use Rattle.session.specs.Contract.{Called, Opening, good_limits};
+ghost use Rattle.session.specs.Desks.{Tried};
 ghost use Rattle.session.specs.Keeping.{AnyChain, FromOpening, MainPromise};
-ghost use Rattle.session.specs.Range.{is_show};
-ghost use Rattle.session.specs.Memory.{Held, Sound, cells_words, paper_of, pieces_words, slots_of, tables, undo_words};
+ghost use Rattle.session.specs.Memory.{Held, Sound, cells_words, pieces_words, undo_words};
 
+mod calls;
+mod cells;
 mod deciding;
+mod desk;
 mod range;
+mod refusal;
 
-use codec::{Answer, Call};
-use deciding::Verdict;
+use codec::Answer;
+use desk::{Desk, HEAD};
+pub use refusal::Refusal;
 
-const HEAD: usize = 16;
+/// How many bytes the longest answer has: 64 rows of 256 cells.
+pub const ANSWER_BYTES: usize = 262_405;
+
+const MOST_CELLS: u32 = 1_000_000;
+
+const MOST_CHANGES: u32 = 65_536;
+
+const MOST_UNDOS: u32 = 1_000_000;
 
 // How many cells and changes a paper may have, and how much can be undone.
-#[derive(Clone, Copy)]
+#[derive(Clone, Copy, Debug, PartialEq, Eq, Hash)]
 pub struct Limits {
     pub cells: u32,
     pub changes: u32,
     pub undos: u32,
 }
 
-// How many words each slice has to have.
-#[derive(Clone, Copy)]
+// How many words each slice has, or has to have.
+#[derive(Clone, Copy, Debug, PartialEq, Eq, Hash)]
 pub struct Sizes {
     pub cells: usize,
     pub pieces: usize,
     pub undo: usize,
 }
 
-// The number of a refusal and the place that it points to.
-#[derive(Clone, Copy)]
-pub struct Refusal {
-    pub number: u32,
-    pub place: u32,
-}
+impl Limits {
+    /// Whether a desk can be opened with these limits.
+    pub fn are_allowed(self) -> bool
+        ensures { result ≡ good_limits self.cells self.changes self.undos }
+    {
+        (self.cells <= MOST_CELLS) & ((self.changes <= MOST_CHANGES) & (self.undos <= MOST_UNDOS))
+    }
 
-// Which rows are shown: in which way to look, how wide, from which on, how many.
-#[derive(Clone, Copy)]
-struct Rows {
-    way: u32,
-    width: u32,
-    first: u32,
-    count: u32,
+    /// Whether slices that have so many words are as long as these limits ask for.
+    pub fn have_room(self, lent: Sizes) -> bool
+        ensures { result ≡ (nat_le (cells_words self.cells) lent.cells && (nat_le (pieces_words self.changes) lent.pieces && nat_le (undo_words self.undos) lent.undo)) }
+    {
+        let asked = words_for(self);
+        (asked.cells <= lent.cells) & ((asked.pieces <= lent.pieces) & (asked.undo <= lent.undo))
+    }
 }
 
 // The sizes that the limits ask for, whether or not a desk can be opened with them.
@@ -66,7 +75,7 @@ pub fn words_for(limits: Limits) -> Sizes
     }
 }
 
-// An empty desk in lent memory, or refusal 3.
+// An empty desk in lent memory, or refusal 3. The slices stand apart, as the C interface lends them.
 pub fn open(
     cells: &mut [u32],
     pieces: &mut [u32],
@@ -75,26 +84,21 @@ pub fn open(
 ) -> Result<(), Refusal>
     ensures { Opening result limits.cells limits.changes limits.undos cells.old pieces.old undo.old cells.new pieces.new undo.new }
 {
-    if limits.cells > 1_000_000 || limits.changes > 65_536 || limits.undos > 1_000_000 {
-        return Err(Refusal {
-            number: 3,
-            place: 1,
-        });
+    if !limits.are_allowed() {
+        return Err(Refusal::LimitsOutOfRange);
     }
-    let asked = words_for(limits);
-    if cells.len() < asked.cells || pieces.len() < asked.pieces || undo.len() < asked.undo {
-        return Err(Refusal {
-            number: 3,
-            place: 0,
-        });
+    let lent = Sizes {
+        cells: cells.len(),
+        pieces: pieces.len(),
+        undo: undo.len(),
+    };
+    if !limits.have_room(lent) {
+        return Err(Refusal::TooLittleMemory);
     }
-    let tables = HEAD + 2 * limits.changes as usize;
     begin(pieces, limits);
-    pieces::clear(
-        cells,
-        &mut pieces[tables..],
-        pieces::slots_for(limits.cells as usize),
-    );
+    let tables = HEAD + 2 * limits.changes as usize;
+    let slots = pieces::slots_for(limits.cells as usize);
+    pieces::clear(cells, &mut pieces[tables..], slots);
     Ok(())
 }
 
@@ -103,14 +107,14 @@ fn begin(pieces: &mut [u32], limits: Limits)
     requires { 16 + 2 * limits.changes ≤ length pieces.old }
     ensures { pieces.new ≡ (limits.cells ∷ (limits.changes ∷ (limits.undos ∷ replicate (13 + 2 * limits.changes) 0))) ++ drop (16 + 2 * limits.changes) pieces.old }
 {
-    pieces::zero(pieces, HEAD + 2 * limits.changes as usize);
+    pieces[..HEAD + 2 * limits.changes as usize].fill(0);
     pieces[0] = limits.cells;
     pieces[1] = limits.changes;
     pieces[2] = limits.undos;
 }
 
 // Does the call that the bytes are, or refuses it, and writes the answer into the first bytes of `answer`; returns how many those are. Bytes that are no
-// call are refused by 1, a call out of range by 2; the other checks are the calls' own, in the order of the refusals' numbers.
+// call are refused by 1, a call out of range by 2; the other checks are the calls' own, in the order of the refusals' numbers. The slices stand apart, as the C interface lends them.
 pub fn call(
     cells: &mut [u32],
     pieces: &mut [u32],
@@ -124,242 +128,39 @@ pub fn call(
     ensures within { result ≤ length answer.old }
     ensures rest { drop result answer.new ≡ drop result answer.old }
 {
-    match codec::read(bytes) {
-        Ok((call, letters)) => serve(cells, pieces, call, letters, answer),
-        Err(at) => codec::write(Answer::Refused(1, told_place(at)), answer),
+    match try_call(cells, pieces, bytes, answer) {
+        Ok(long) => long,
+        Err(refusal) => codec::write(Answer::from(refusal), answer),
     }
 }
 
-// A place as far as four bytes can tell it.
-fn told_place(at: usize) -> u32
-    ensures { result ≡ min at 4294967295 }
-{
-    if at < 4294967295 {
-        at as u32
-    } else {
-        4294967295
-    }
-}
-
-// Does a call that could be read, or refuses it.
-fn serve(
+// Does the call that the bytes are, or says why it is refused. It makes the desk of the slices that are lent.
+fn try_call(
     cells: &mut [u32],
     pieces: &mut [u32],
-    call: Call,
-    letters: &[u8],
+    bytes: &[u8],
     answer: &mut [u8],
-) -> usize
+) -> Result<usize, Refusal>
     requires held { Held cells.old pieces.old }
     requires room { 262405 ≤ length answer.old }
-    ensures { Said cells.old pieces.old (meaning call letters.now) cells.new pieces.new answer.old answer.new result }
+    ensures { Tried cells.old pieces.old (reading bytes.now) cells.new pieces.new answer.old answer.new result }
 {
-    if !range::within(call, letters) {
-        return codec::write(Answer::Refused(2, 0), answer);
-    }
-    match call {
-        Call::Show {
-            way,
-            width,
-            row,
-            count,
-        } => {
-            let rows = Rows {
-                way,
-                width,
-                first: row,
-                count,
-            };
-            show(cells, pieces, rows, answer)
+    match codec::read(bytes) {
+        Ok((call, letters)) => {
+            let mut desk = Desk { cells, pieces };
+            desk.serve(call, letters, answer)
         }
-        _ => {
-            let short = act(cells, pieces, call, letters);
-            codec::write(short, answer)
-        }
+        Err(at) => Err(Refusal::NotACall { at }),
     }
-}
-
-// Does a call in range whose answer is short, or refuses it. A call that this stage cannot do is refused by 2.
-fn act(cells: &mut [u32], pieces: &mut [u32], call: Call, letters: &[u8]) -> Answer
-    requires held { Held cells.old pieces.old }
-    requires good { good_fields (meaning call letters.now) ≡ true }
-    requires short { is_show call ≡ false }
-    ensures { Acted cells.old pieces.old (meaning call letters.now) cells.new pieces.new (told result) }
-{
-    match call {
-        Call::Put {
-            author,
-            place,
-            style,
-        } => put(cells, pieces, author, place, style, letters),
-        Call::Strike {
-            author,
-            place,
-            count,
-        } => deciding::strike(cells, pieces, author, place, count),
-        Call::Accept { change } => deciding::decide(cells, pieces, change, Verdict::Accepted),
-        Call::Reject { change } => deciding::decide(cells, pieces, change, Verdict::Rejected),
-        Call::Style {
-            place,
-            count,
-            style,
-        } => deciding::style(cells, pieces, place, count, style),
-        Call::Count { way } => count(cells, pieces, way),
-        Call::Change { change } => deciding::ask(cells, pieces, change),
-        Call::Show { .. } => unreachable(),
-        Call::Undo => Answer::Refused(2, 0),
-        Call::Redo => Answer::Refused(2, 0),
-        Call::Find { .. } => Answer::Refused(2, 0),
-        Call::Save { .. } => Answer::Refused(2, 0),
-    }
-}
-
-// An author puts letters before a cell, or at the end: a new change, whose number is the answer.
-fn put(
-    cells: &mut [u32],
-    pieces: &mut [u32],
-    author: u32,
-    place: u32,
-    style: u32,
-    letters: &[u8],
-) -> Answer
-    requires held { Held cells.old pieces.old }
-    requires good { good_fields (puts author place style letters.now) ≡ true }
-    ensures { Acted cells.old pieces.old (puts author place style letters.now) cells.new pieces.new (told result) }
-{
-    let count = count_cells(pieces);
-    let Some(at) = place_for(count, place) else {
-        return Answer::Refused(4, 1);
-    };
-    let Some(number) = room(pieces, count + letters.len()) else {
-        return Answer::Refused(9, 0);
-    };
-    insert(cells, pieces, at, letters, style, number);
-    add_change(pieces, author);
-    Answer::Number(number)
-}
-
-// How many letters are seen in a way to look.
-fn count(cells: &[u32], pieces: &[u32], way: u32) -> Answer
-    requires held { Held cells.now pieces.now }
-    requires good { good_fields (counts way) ≡ true }
-    ensures { Acted cells.now pieces.now (counts way) cells.now pieces.now (told result) }
-{
-    let slots = pieces::slots_for(pieces[0] as usize);
-    let from = HEAD + 2 * pieces[1] as usize;
-    Answer::Number(layout::count(cells, &pieces[from..], slots, way) as u32)
-}
-
-// Rows of a width in a way to look: the whole answer is written, and its length is returned.
-fn show(cells: &[u32], pieces: &[u32], rows: Rows, answer: &mut [u8]) -> usize
-    requires held { Held cells.now pieces.now }
-    requires good { good_fields (shows rows.way rows.width rows.first rows.count) ≡ true }
-    requires room { 262405 ≤ length answer.old }
-    ensures { Said cells.now pieces.now (shows rows.way rows.width rows.first rows.count) cells.now pieces.now answer.old answer.new result }
-{
-    let slots = pieces::slots_for(pieces[0] as usize);
-    let from = HEAD + 2 * pieces[1] as usize;
-    match layout::show(
-        cells,
-        &pieces[from..],
-        slots,
-        rows.way,
-        rows.width,
-        rows.first,
-        rows.count,
-        answer,
-    ) {
-        Some(long) => long,
-        None => codec::write(Answer::Refused(8, 2), answer),
-    }
-}
-
-// How many cells the paper has.
-fn count_cells(pieces: &[u32]) -> usize
-    requires few { slice_index pieces.now 0 ≤ 1000000 }
-    requires long { pieces_words (slice_index pieces.now 1) ≤ length pieces.now }
-    requires table { Table (tables pieces.now) (slots_of pieces.now) }
-    ensures { result ≡ before (tables pieces.now) (slots_of pieces.now) }
-{
-    let slots = pieces::slots_for(pieces[0] as usize);
-    let from = HEAD + 2 * pieces[1] as usize;
-    pieces::count(&pieces[from..], slots)
-}
-
-// The place before which letters can be put: a cell's, or the end.
-fn place_for(count: usize, place: u32) -> Option<usize>
-    ensures { elim result [ Some at ↦ (at ≡ place) × (nat_le place count ≡ true) | None ↦ nat_le place count ≡ false ] }
-{
-    if place as usize <= count {
-        Some(place as usize)
-    } else {
-        None
-    }
-}
-
-// The number of a new change, if the limits allow one more and so many cells.
-fn room(pieces: &[u32], cells: usize) -> Option<u32>
-    requires { 4 ≤ length pieces.now }
-    ensures { elim result [ Some number ↦ (number ≡ slice_index pieces.now 3) × (allows pieces.now cells ≡ true) | None ↦ allows pieces.now cells ≡ false ] }
-{
-    if (cells <= pieces[0] as usize) & (pieces[3] < pieces[1]) {
-        Some(pieces[3])
-    } else {
-        None
-    }
-}
-
-// Puts letters into the store, put in by change number `change`.
-fn insert(
-    cells: &mut [u32],
-    pieces: &mut [u32],
-    place: usize,
-    letters: &[u8],
-    style: u32,
-    change: u32,
-)
-    requires held { Held cells.old pieces.old }
-    requires place { place ≤ length (paper_of cells.old pieces.old).cells }
-    requires few { length letters.now ≤ 1024 }
-    requires fits { length (paper_of cells.old pieces.old).cells + length letters.now ≤ slice_index pieces.old 0 }
-    requires mark { change < 4294967295 }
-    ensures { Wrote cells.old pieces.old cells.new pieces.new (with_cells (paper_of cells.old pieces.old) (take place (paper_of cells.old pieces.old).cells ++ (new_cells letters.now style change ++ drop place (paper_of cells.old pieces.old).cells))) }
-{
-    let slots = pieces::slots_for(pieces[0] as usize);
-    let from = HEAD + 2 * pieces[1] as usize;
-    pieces::put(
-        cells,
-        &mut pieces[from..],
-        slots,
-        place,
-        letters,
-        style,
-        change,
-    );
-}
-
-// One change more, which is open.
-fn add_change(pieces: &mut [u32], author: u32)
-    requires room { slice_index pieces.old 3 < slice_index pieces.old 1 }
-    requires few { slice_index pieces.old 1 ≤ 65536 }
-    requires long { 16 + 2 * slice_index pieces.old 1 ≤ length pieces.old }
-    ensures { Rowed pieces.old pieces.new (row_of pieces.old ++ (record { author = author; became = 0 } ∷ [])) }
-{
-    let number = pieces[3];
-    changes::add(&mut pieces[HEAD..], number as usize, author);
-    pieces[3] = number + 1;
 }
 
 // In any chain of calls, with any bytes, the answers are those of the desk that memory stood for; after opening, of the empty desk.
-pub fn any_chain() -> u8
+pub fn any_chain()
     ensures stands { AnyChain }
     ensures opened { FromOpening }
-{
-    0
-}
+{}
 
 // Whoever keeps to the contracts of open and call answers every list of calls as the model does, within the memory that is asked for.
-pub fn main_promise() -> u8
+pub fn main_promise()
     ensures { MainPromise }
-{
-    0
-}
+{}

@@ -42,12 +42,7 @@ fn counted(n: usize, most: usize) -> bool
 fn all_good(letters: &[u8]) -> bool
     ensures { result ≡ good_letters letters.now }
 {
-    for letter in letters {
-        if !good(*letter) {
-            return false;
-        }
-    }
-    true
+    letters.iter().all(|letter| good(*letter))
 }
 
 fn good(letter: u8) -> bool

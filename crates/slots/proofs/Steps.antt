@@ -78,11 +78,3 @@ filled c d e a i ls s ch l h g f k w j =
     let m = new_cells_more (take i ls) l s ch in
     let r = added c d e a i _ _ f k w j in
     let x = r.0 in (cc, r.1)
-
--- one more cell of other words
-pub pasted : (c d e new : List ℕ) (a from i : ℕ) → cells_at d a i ≡ cells_at new from i → Kept c d a i
-    → cell_at e (a + i) ≡ cell_at new (from + i) → Kept d e (a + i) 1 → (cells_at e a (i + 1) ≡ cells_at new from (i + 1)) × Kept c e a (i + 1)
-pasted c d e new a from i f k w j =
-    let m = cells_more new from i in
-    let r = added c d e a i _ _ f k w j in
-    let x = r.0 in (cc, r.1)

@@ -1,14 +1,19 @@
 -- Laws of cells in words.
-use Rattle.std.proofs.Common.{◌≡◌, ℕ, zero, suc, ◌+◌, ◌-◌, ◌*◌, ◌<◌, ◌≤◌, List, [], ◌∷◌, ◌++◌, length, get_or, take, drop, refl, ap, ◌∙◌, add-zero, add-suc, suc-add, zero-add, arith}
-use Rattle.std.proofs.lemmas.List.{ext_get_or, get_or-drop, length-drop, take_at, drop_at}
+use Rattle.std.proofs.Common.{◌≡◌, ℕ, zero, suc, ◌+◌, ◌-◌, ◌*◌, ◌/◌, ◌<◌, ◌≤◌, List, [], ◌∷◌, ◌++◌, length, get_or, take, drop, refl, ap, ◌∙◌, add-zero, add-suc, suc-add, zero-add, arith}
+use Rattle.std.proofs.lemmas.List.{ext_get_or, get_or-drop, get_or-take, length-drop, length-take-le, take_at, drop_at}
+use Rattle.std.proofs.lemmas.List.Edits.{length-between}
+use Rattle.std.specs.List.{between}
 use Rattle.model.specs.Paper.{Cell, new_cells}
-use Rattle.slots.specs.Cells.{cell_at, cells_at, Kept}
+use Rattle.slots.specs.Cells.{all_cells, cell_at, cells_at, Kept}
 
 -- a cell is known from its four words
 pub cell_same : (c d : List ℕ) (a b : ℕ) → get_or c (4 * a) 0 ≡ get_or d (4 * b) 0 → get_or c (4 * a + 1) 0 ≡ get_or d (4 * b + 1) 0
     → get_or c (4 * a + 2) 0 ≡ get_or d (4 * b + 2) 0 → get_or c (4 * a + 3) 0 ≡ get_or d (4 * b + 3) 0 → cell_at c a ≡ cell_at d b
 unfolding cell_at
 cell_same c d a b p q r s = cc
+
+pub cell_words : (c d : List ℕ) (a b : ℕ) → ((j : ℕ) → j < 4 → get_or c (4 * a + j) 0 ≡ get_or d (4 * b + j) 0) → cell_at c a ≡ cell_at d b
+cell_words c d a b h = cell_same c d a b (simp add-zero at (h 0 (omega arith))) (h 1 (omega arith)) (h 2 (omega arith)) (h 3 (omega arith))
 
 pub length_cells : (c : List ℕ) (a n : ℕ) → length (cells_at c a n) ≡ n
 unfolding cells_at
@@ -50,6 +55,41 @@ pub drop_cells : (c : List ℕ) (a n i : ℕ) → i ≤ n → drop i (cells_at c
 drop_cells c a n i l =
     let e : n ≡ i + (n - i) = omega arith in
     ap (λ m. drop i (cells_at c a m)) e ∙ ap (drop i) (cells_split c a i (n - i)) ∙ drop_at (cells_at c a i) (cells_at c (a + i) (n - i)) i (length_cells c a i)
+
+-- cells in a part of the words
+pub cells_take : (w : List ℕ) (n k : ℕ) → 4 * n ≤ k → cells_at (take k w) 0 n ≡ cells_at w 0 n
+cells_take w n k h = cells_same (take k w) w 0 0 n (λ i l. cell_words (take k w) w (0 + i) (0 + i) (λ j m. get_or-take k w (4 * (0 + i) + j) 0 (omega arith)))
+
+pub cells_drop : (w : List ℕ) (a n : ℕ) → cells_at (drop (4 * a) w) 0 n ≡ cells_at w a n
+cells_drop w a n =
+    cells_same (drop (4 * a) w) w 0 a n (λ i l. cell_words (drop (4 * a) w) w (0 + i) (a + i) (λ j m.
+    let e : 4 * a + (4 * (0 + i) + j) ≡ 4 * (a + i) + j = omega arith in
+    rw e at (get_or-drop (4 * a) w (4 * (0 + i) + j) 0)))
+
+pub cells_part : (w : List ℕ) (a n : ℕ) → cells_at (between (4 * a) (4 * (a + n)) w) 0 n ≡ cells_at w a n
+cells_part w a n = cells_take (drop (4 * a) w) n (4 * (a + n) - 4 * a) (omega arith) ∙ cells_drop w a n
+
+pub all_take : (w : List ℕ) (n : ℕ) → 4 * n ≤ length w → all_cells (take (4 * n) w) ≡ cells_at w 0 n
+all_take w n h =
+    let l : length (take (4 * n) w) / 4 ≡ n = omega (arith, length-take-le (4 * n) w h) in
+    ap (cells_at (take (4 * n) w) 0) l ∙ cells_take w n (4 * n) (omega arith)
+
+pub all_part : (w : List ℕ) (a n : ℕ) → 4 * (a + n) ≤ length w → all_cells (between (4 * a) (4 * (a + n)) w) ≡ cells_at w a n
+all_part w a n h =
+    let l : length (between (4 * a) (4 * (a + n)) w) / 4 ≡ n = omega (arith, length-between w (4 * a) (4 * (a + n)) h) in
+    ap (cells_at (between (4 * a) (4 * (a + n)) w) 0) l ∙ cells_part w a n
+
+-- the first m cells and the others
+pub all_halves : (w : List ℕ) (m : ℕ) → 4 * m ≤ length w → all_cells (take (4 * m) w) ++ all_cells (drop (4 * m) w) ≡ all_cells w
+all_halves w m h =
+    let n = length w / 4 in
+    let l : length (drop (4 * m) w) / 4 ≡ n - m = omega (arith, length-drop (4 * m) w) in
+    let a = all_take w m h in
+    let b : all_cells (drop (4 * m) w) ≡ cells_at w m (n - m) = ap (cells_at (drop (4 * m) w) 0) l ∙ cells_drop w m (n - m) in
+    let c = cells_split w 0 m (n - m) in
+    let d : m + (n - m) ≡ n = omega arith in
+    let e = zero-add m in
+    cc
 
 -- what a change of the n cells from b on leaves
 module _ (c d : List ℕ) (b n : ℕ) (k : Kept c d b n) where

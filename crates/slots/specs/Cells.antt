@@ -1,5 +1,5 @@
 -- Cells in words: cell number a stands at the four words from 4 a on, as letter, style, put in, struck.
-use Rattle.std.specs.Prelude.{◌≡◌, ℕ, zero, suc, ◌+◌, ◌*◌, ◌<◌, ◌≤◌, List, [], ◌∷◌, length, slice_index}
+use Rattle.std.specs.Prelude.{◌≡◌, ℕ, zero, suc, ◌+◌, ◌*◌, ◌/◌, ◌<◌, ◌≤◌, List, [], ◌∷◌, length, slice_index}
 use Rattle.model.specs.Paper.{Cell}
 
 -- cell number a
@@ -11,6 +11,10 @@ cell_at c a =
 unfoldable pub cells_at : List ℕ → ℕ → ℕ → List Cell
 cells_at c a zero = []
 cells_at c a (suc n) = cell_at c a ∷ cells_at c (suc a) n
+
+-- all cells whose words there are
+abbrev pub all_cells : List ℕ → List Cell
+all_cells w = cells_at w 0 (length w / 4)
 
 -- From c to d only the n cells from number a on may have changed: every other word is as it was.
 pub record Kept (c d : List ℕ) (a n : ℕ) : Type 0 where

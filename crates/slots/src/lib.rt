@@ -1,10 +1,10 @@
-// Cells in lent words, four words a cell: read one, write one, copy a run of cells, paste one from other words, fill one with new letters.
+// Cells in lent words, four words a cell: read one, write one, copy a run of cells, paste in those of other words, fill in new letters.
 #![tactic(auto)]
 
-ghost use Rattle.std.specs.Prelude.{◌≡◌, ◌+◌, ◌*◌, ◌<◌, ◌≤◌, length};
+ghost use Rattle.std.specs.Prelude.{◌≡◌, ◌+◌, ◌*◌, ◌/◌, ◌<◌, ◌≤◌, length};
 ghost use Rattle.model.specs.Paper.{new_cells};
 ghost use Rattle.model.specs.Values.{cell_of};
-ghost use Rattle.slots.specs.Cells.{cell_at, cells_at, Kept};
+ghost use Rattle.slots.specs.Cells.{all_cells, cell_at, cells_at, Kept};
 
 use model::Cell;
 
@@ -35,6 +35,15 @@ pub fn write(c: &mut [u32], a: usize, cell: Cell)
     c[at + 3] = cell.struck;
 }
 
+// The words of the `n` cells from number `a` on.
+pub fn part(c: &[u32], a: usize, n: usize) -> &[u32]
+    requires { 4 * (a + n) ≤ length c.now }
+    ensures cells { all_cells result.now ≡ cells_at c.now a n }
+    ensures long { length result.now ≡ 4 * n }
+{
+    &c[4 * a..4 * (a + n)]
+}
+
 // Copies `n` cells from number `from` on to number `to` on. The two runs may overlap.
 pub fn copy(c: &mut [u32], from: usize, to: usize, n: usize)
     requires source { 4 * (from + n) ≤ length c.old }
@@ -50,17 +59,14 @@ pub fn copy(c: &mut [u32], from: usize, to: usize, n: usize)
     c.copy_within(start..end, 4 * to);
 }
 
-// Copies `n` cells of `new`, from its number `from` on, to number `a` on.
-pub fn paste(c: &mut [u32], a: usize, new: &[u32], from: usize, n: usize)
-    requires source { 4 * (from + n) ≤ length new.now }
-    requires target { 4 * (a + n) ≤ length c.old }
-    ensures pasted { cells_at c.new a n ≡ cells_at new.now from n }
-    ensures kept { Kept c.old c.new a n }
+// Copies the cells whose words `new` has to number `a` on.
+pub fn paste(c: &mut [u32], a: usize, new: &[u32])
+    requires { 4 * (a + length new.now / 4) ≤ length c.old }
+    ensures pasted { cells_at c.new a (length new.now / 4) ≡ all_cells new.now }
+    ensures kept { Kept c.old c.new a (length new.now / 4) }
 {
-    for i in 0..n {
-        let cell = read(new, from + i);
-        write(c, a + i, cell);
-    }
+    let n = new.len() / 4;
+    c[4 * a..4 * (a + n)].copy_from_slice(&new[..4 * n]);
 }
 
 // Writes the letters as new cells from number `a` on: in one style, put in by one change.

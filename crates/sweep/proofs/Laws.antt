@@ -1,6 +1,6 @@
 -- Laws of a sweep.
 use Rattle.std.proofs.Common.{◌≡◌, ℕ, zero, suc, ◌+◌, ◌-◌, ◌<◌, ◌≤◌, Bool, true, false, eqb, ◌≢◌, List, [], ◌∷◌, ◌++◌, take, drop, sym, refl, ap, ◌∙◌, arith}
-use lib.Dec.{eqb-zero-suc, eqb-suc-suc}
+use lib.Dec.{eqb-zero-suc, eqb-suc-zero, eqb-suc-suc}
 use Rattle.std.proofs.lemmas.List.{append_assoc, drop-drop, get_or_past}
 use Rattle.model.specs.Paper.{pick, Cell, Change, author_of, strike, accept, reject, styled}
 use Rattle.changes.specs.Row.{change_at, changes_of}
@@ -39,13 +39,13 @@ front_more : (a : Action) (cs : List Change) (x : Cell) (xs : List Cell) (n : �
 unfolding swept
 front_more a cs x xs n = append_assoc (fate a cs x) (swept a cs (take n xs)) (drop n xs)
 
-pub strike_swept : (cs : List Change) (xs : List Cell) (n a c : ℕ) → strike xs n cs a c ≡ swept (Strike a c) cs (take n xs) ++ drop n xs
+pub strike_swept : (cs : List Change) (xs : List Cell) (n a c : ℕ) → strike xs n cs a c ≡ swept (Strike a (suc c)) cs (take n xs) ++ drop n xs
 unfolding strike swept
 strike_swept cs [] zero a c = refl
 strike_swept cs [] (suc n) a c = refl
 strike_swept cs (x ∷ xs) zero a c = refl
 strike_swept cs (x ∷ xs) (suc n) a c =
-    let act : Action = Strike a c in
+    let act : Action = Strike a (suc c) in
     rw (strike_swept cs xs n a c) (pick_front (goes act cs x) (changed act x) (swept act cs (take n xs) ++ drop n xs) ∙ sym (front_more act cs x xs n))
 
 pub styled_swept : (cs : List Change) (xs : List Cell) (n s : ℕ) → styled xs n s ≡ swept (Style s) cs (take n xs) ++ drop n xs
@@ -63,7 +63,7 @@ pub one_meaning : OneMeaning
 one_meaning cs xs = (
   accept_swept cs xs,
   reject_swept cs xs,
-  (λ i n a c. ap (λ ys. take i xs ++ ys) (strike_swept cs (drop i xs) n a c) ∙ swept_run_at (Strike a c) cs xs i n),
+  (λ i n a c. ap (λ ys. take i xs ++ ys) (strike_swept cs (drop i xs) n a c) ∙ swept_run_at (Strike a (suc c)) cs xs i n),
   (λ i n s. ap (λ ys. take i xs ++ ys) (styled_swept cs (drop i xs) n s) ∙ swept_run_at (Style s) cs xs i n),
 )
 
@@ -82,11 +82,16 @@ of_row w n (suc m) a b h l e =
     let at = ap (change_at w) i in
     cc
 
-pub of_past : (w : List ℕ) (n m a : ℕ) → m ≢ 0 → n ≤ m - 1 → eqb 0 a ≡ eqb (author_of (changes_of w n) m) (suc a)
+zero_last : (a : ℕ) → eqb a 0 ≡ eqb 0 a
+zero_last zero = refl
+zero_last (suc a) = eqb-suc-zero a ∙ sym (eqb-zero-suc a)
+
+pub of_past : (w : List ℕ) (n m a : ℕ) → m ≢ 0 → n ≤ m - 1 → eqb a 0 ≡ eqb (author_of (changes_of w n) m) (suc a)
 unfolding author_of
 of_past w n zero a h l = absurd (h refl)
 of_past w n (suc m) a h l =
     let len = length_changes w 0 n in
     let g = get_or_past (changes_of w n) m (record { author = 0; became = 0 }) (omega arith) in
     let j = eqb-suc-suc 0 a in
+    let k = zero_last a in
     cc

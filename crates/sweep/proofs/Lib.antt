@@ -2,5 +2,4 @@ pub mod Laws
 mod Steps
 mod Runs
 mod Marks
-mod Ahead
 mod Sets

@@ -3,7 +3,7 @@ use Rattle.std.proofs.Common.{◌≡◌, ℕ, suc, ◌+◌, ◌*◌, Bool, true,
 use Rattle.std.specs.List.{AllByRecursion}
 use Rattle.std.proofs.lemmas.Bool.{ne_eqb}
 use Rattle.model.specs.Paper.{pick, Cell, touched}
-use Rattle.slots.specs.Cells.{cell_at, cells_at}
+use Rattle.slots.specs.Cells.{all_cells, cell_at, cells_at}
 use Rattle.slots.proofs.Words.{cells_more}
 use Rattle.pieces.specs.Marks.{Lacks}
 use Rattle.pieces.specs.Store.{slot, used, number, piece, strung, pieces_from}
@@ -19,17 +19,17 @@ touched_append [] ys c = sym (zero-add (touched ys c))
 touched_append (x ∷ xs) ys c = ap (λ n. pick (mark_in x c) 1 0 + n) (touched_append xs ys c) ∙ sym (add_assoc (pick (mark_in x c) 1 0) (touched xs c) (touched ys c))
 
 -- one cell more
-pub touched_more : (w : List ℕ) (at i c : ℕ) → touched (cells_at w at (i + 1)) c ≡ touched (cells_at w at i) c + pick (mark_in (cell_at w (at + i)) c) 1 0
+pub touched_more : (w : List ℕ) (i c : ℕ) → touched (cells_at w 0 (i + 1)) c ≡ touched (cells_at w 0 i) c + pick (mark_in (cell_at w i) c) 1 0
 unfolding touched
-touched_more w at i c =
-    ap (λ xs. touched xs c) (cells_more w at i) ∙ touched_append (cells_at w at i) (cell_at w (at + i) ∷ []) c
-    ∙ ap (λ n. touched (cells_at w at i) c + n) (add-zero (pick (mark_in (cell_at w (at + i)) c) 1 0))
+touched_more w i c =
+    ap (λ xs. touched xs c) (cells_more w 0 i) ∙ touched_append (cells_at w 0 i) (cell_at w (0 + i) ∷ []) c
+    ∙ ap (λ n. touched (cells_at w 0 i) c + n) (add-zero (pick (mark_in (cell_at w (0 + i)) c) 1 0) ∙ ap (λ k. pick (mark_in (cell_at w k) c) 1 0) (zero-add i))
 
-pub touched_with : (w : List ℕ) (at i c n : ℕ) → mark_in (cell_at w (at + i)) c ≡ true → n ≡ touched (cells_at w at i) c → n + 1 ≡ touched (cells_at w at (i + 1)) c
-touched_with w at i c n e h = let m = touched_more w at i c in let o = ap (λ t. pick {A = ℕ} t 1 0) e in omega arith
+pub touched_with : (w : List ℕ) (i c n : ℕ) → mark_in (cell_at w i) c ≡ true → n ≡ touched (cells_at w 0 i) c → n + 1 ≡ touched (cells_at w 0 (i + 1)) c
+touched_with w i c n e h = let m = touched_more w i c in let o = ap (λ t. pick {A = ℕ} t 1 0) e in omega arith
 
-pub touched_without : (w : List ℕ) (at i c n : ℕ) → mark_in (cell_at w (at + i)) c ≡ false → n ≡ touched (cells_at w at i) c → n ≡ touched (cells_at w at (i + 1)) c
-touched_without w at i c n e h = let m = touched_more w at i c in let o = ap (λ t. pick {A = ℕ} t 1 0) e in omega arith
+pub touched_without : (w : List ℕ) (i c n : ℕ) → mark_in (cell_at w i) c ≡ false → n ≡ touched (cells_at w 0 i) c → n ≡ touched (cells_at w 0 (i + 1)) c
+touched_without w i c n e h = let m = touched_more w i c in let o = ap (λ t. pick {A = ℕ} t 1 0) e in omega arith
 
 -- a piece without the mark
 pub touched_lacks : (c : ℕ) (xs : List Cell) → AllByRecursion (Lacks (suc c)) xs → touched xs c ≡ 0
@@ -39,9 +39,9 @@ touched_lacks c (x ∷ xs) all =
     rw (ne_eqb x.put_in (suc c) all.0.put_in, ne_eqb x.struck (suc c) all.0.struck) (ap (λ n. 0 + n) (touched_lacks c xs all.1))
 
 -- the cells of piece k
-pub touched_here : (w p : List ℕ) (k c at u r : ℕ) → at ≡ number p k 0 → u ≡ used p k → r ≡ touched (cells_at w at u) c → r ≡ touched (piece w p k) c
+pub touched_here : (w p xs : List ℕ) (k c at u r : ℕ) → at ≡ number p k 0 → u ≡ used p k → all_cells xs ≡ cells_at w at u → r ≡ touched (all_cells xs) c → r ≡ touched (piece w p k) c
 unfolding piece
-touched_here w p k c at u r e f g =
+touched_here w p xs k c at u r e f g h =
     let z : at ≡ 1024 * slot p k = omega arith in
     let here : cells_at w at u ≡ piece w p k = rw (z, f) in
     cc

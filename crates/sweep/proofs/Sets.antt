@@ -1,5 +1,5 @@
 -- A sweep and the sets of marks.
-use Rattle.std.proofs.Common.{◌≡◌, ℕ, suc, ◌+◌, ◌<◌, ◌≤◌, Bool, true, false, eqb, List, [], ◌∷◌, length, take, drop, refl, ap, arith}
+use Rattle.std.proofs.Common.{◌≡◌, ℕ, suc, ◌+◌, ◌<◌, Bool, true, false, eqb, List, [], ◌∷◌, take, drop, refl, ap, arith}
 use Rattle.std.specs.List.{AllByRecursion}
 use Rattle.std.proofs.ByRecursion.{All-append, All-take, All-drop}
 use Rattle.std.proofs.lemmas.Bool.{ne_eqb}
@@ -12,17 +12,13 @@ use Rattle.sweep.specs.declared.Action.{Action}
 use Rattle.sweep.specs.declared.Action.TheVariants.{Strike, Accept, Reject, Style}
 use Rattle.sweep.specs.Sweep.{goes, changed, fate, swept, swept_run, Noted}
 
--- the tables reach past the tree
-pub past_tree : (p : List ℕ) (s : ℕ) → Order p s → 6144 ≤ length p
-past_tree p s o = let w = o.words in omega arith
-
 -- a set has the one of two marks that is picked
 pick_has : (p : List ℕ) (i m n : ℕ) (t : Bool) → (0 < m → Has p i m) → (0 < n → Has p i n) → 0 < pick t m n → Has p i (pick t m n)
 pick_has p i m n true f g = f
 pick_has p i m n false f g = g
 
 changed_marks : (a : Action) (p : List ℕ) (i : ℕ) (x : Cell) → Noted a p i → Marks p i x → Marks p i (changed a x)
-changed_marks (Strike a c) p i x h m = record { put_in = m.put_in; struck = pick_has p i (suc c) x.struck (eqb x.struck 0) h m.struck }
+changed_marks (Strike a n) p i x h m = record { put_in = m.put_in; struck = pick_has p i n x.struck (eqb x.struck 0) h m.struck }
 changed_marks (Accept c) p i x h m = record { put_in = pick_has p i 0 x.put_in (eqb x.put_in (suc c)) (λ l. absurd (omega arith)) m.put_in; struck = m.struck }
 changed_marks (Reject c) p i x h m = record { put_in = m.put_in; struck = pick_has p i 0 x.struck (eqb x.struck (suc c)) (λ l. absurd (omega arith)) m.struck }
 changed_marks (Style s) p i x h m = record { put_in = m.put_in; struck = m.struck }
@@ -64,6 +60,3 @@ reject_lacks c cs (x ∷ xs) all =
 pub beside_piece : (c p q : List ℕ) (s k : ℕ) → Order p s → Beside p q → k < s → piece c q k ≡ piece c p k
 unfolding piece
 beside_piece c p q s k o h l = let most = o.most in rw (h.below k (omega arith), h.below (4096 + k) (omega arith))
-
-pub true_false : true ≡ false → ⊥
-true_false e = let z : ◌≡◌ {A = ℕ} 1 0 = ap (λ t. pick {A = ℕ} t 1 0) e in omega arith

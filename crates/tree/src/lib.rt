@@ -9,10 +9,10 @@ const LEAVES: usize = 2048;
 
 const HEIGHT: usize = 11;
 
-// A leaf, and a place within what it counts.
-#[derive(Clone, Copy)]
+// A piece, whose cells a leaf counts, and a place in it.
+#[derive(Clone, Copy, Debug, PartialEq, Eq, Hash)]
 pub struct Spot {
-    pub leaf: usize,
+    pub piece: usize,
     pub offset: usize,
 }
 
@@ -20,7 +20,7 @@ pub struct Spot {
 pub fn find(t: &[u32], place: usize) -> Spot
     requires sums { Sums t.now }
     requires place { place < slice_index t.now 1 }
-    ensures { Found t.now place result.leaf result.offset }
+    ensures { Found t.now place result.piece result.offset }
 {
     descend(t, 1, HEIGHT, place)
 }
@@ -28,11 +28,11 @@ pub fn find(t: &[u32], place: usize) -> Spot
 // The same from a node that stands `height` levels above the leaves: there the place counts from the first leaf below it.
 fn descend(t: &[u32], node: usize, height: usize, place: usize) -> Spot
     requires { Over t.now node height place }
-    ensures { Found t.now (total t.now 2048 (leftmost node height - 2048) + place) result.leaf result.offset }
+    ensures { Found t.now (total t.now 2048 (leftmost node height - 2048) + place) result.piece result.offset }
 {
     if height == 0 {
         return Spot {
-            leaf: node - LEAVES,
+            piece: node - LEAVES,
             offset: place,
         };
     }

@@ -3,9 +3,7 @@
 
 ghost use Rattle.session.specs.Keeping.{SomeKeeper};
 
-// There is a keeper that does what the contracts say.
-pub fn some_keeper() -> u8
+/// There is a keeper that does what the contracts say.
+pub fn some_keeper()
     ensures { SomeKeeper }
-{
-    0
-}
+{}

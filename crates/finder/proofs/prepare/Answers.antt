@@ -1,5 +1,5 @@
 -- The table is filled by the steps of the letters over themselves.
-use Rattle.std.proofs.Common.{length, refl, ◌∙◌, arith}
+use Rattle.std.proofs.Common.{refl, ◌∙◌, arith}
 use Rattle.std.proofs.lemmas.List.{length-set, drop-set-lt}
 use Rattle.finder.proofs.Matching.{filling_first, filling_more}
 use Rattle.finder.proofs.prepare.Goals as goal
@@ -7,24 +7,9 @@ use Rattle.finder.proofs.prepare.Goals as goal
 pub loop-i-init : goal.loop-i-init
 loop-i-init c = (filling_first c.args.letters.now c.args.table.now (omega arith) (omega arith), refl)
 
-pub step-k-requires : goal.step-k-requires
-step-k-requires c =
-    let f = c.loop-i.invariant.0 in
-    record { matched_in_bounds = (omega arith, omega (arith, length-set c.args.table.now 0 0)); table = λ j h. f.right j (omega (arith, f.small)) }
-
-pub overflow_cast-table : goal.overflow_cast-table
-overflow_cast-table c = omega (arith, (c.step-k.ensures _ c.loop-i.invariant.0.matches).ends.fits)
-
 pub loop-i-preserved : goal.loop-i-preserved
 loop-i-preserved c = (
   filling_more c.args.letters.now c.loop-i.table c.loop-i.i c.loop-i.k c.step-k.result
       (omega arith) c.loop-i-test.true (omega (arith, length-set c.args.table.now 0 0)) c.loop-i.invariant.0 c.step-k.ensures,
   drop-set-lt _ _ _ _ c.loop-i-test.true ∙ c.loop-i.invariant.1,
 )
-
-pub returns : goal.returns
-returns c =
-    record {
-      borders = λ j h. c.loop-i.invariant.0.right j (omega arith);
-      rest = c.loop-i.invariant.1 ∙ drop-set-lt (length c.args.letters.now) c.args.table.now 0 0 (omega arith);
-    }

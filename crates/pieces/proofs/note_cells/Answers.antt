@@ -1,4 +1,4 @@
-use Rattle.std.proofs.Common.{◌≡◌, refl, arith}
+use Rattle.std.proofs.Common.{◌≡◌, ◌/◌, length, refl, zero-add, arith}
 use Rattle.model.specs.Values.{cell_of}
 use Rattle.slots.specs.Cells.{cells_at}
 use Rattle.pieces.specs.Marks.{noted_cells}
@@ -11,10 +11,10 @@ loop-j-init c = refl
 
 pub loop-j-preserved : goal.loop-j-preserved
 loop-j-preserved c =
-    noted_next c.args.c.now c.args.p.now c.loop-j.p c.note.new.p c.note-in-loop-j.new.p c.args.i c.args.from c.loop-j.j
-    (cell_of c.read-cell.result) c.loop-j.invariant c.read-cell.ensures c.note.ensures c.note-in-loop-j.ensures
+    noted_next c.args.cells.now c.args.p.now c.loop-j.p c.note.new.p c.note-in-loop-j.new.p c.args.i 0 c.loop-j.j
+    (cell_of c.read-cell.result) c.loop-j.invariant (simp zero-add c.read-cell.ensures) c.note.ensures c.note-in-loop-j.ensures
 
 pub returns : goal.returns
 returns c =
-    let e : c.loop-j.j ≡ c.args.n = omega arith in
+    let e : c.loop-j.j ≡ length c.args.cells.now / 4 = omega arith in
     rw (← e) c.loop-j.invariant

@@ -14,7 +14,7 @@ note_cells-requires c =
     let room = c.requires.store.room in
     let a = o.inside c.args.k c.requires.here in
     let b = o.small c.args.k c.requires.here in
-    record { inside = omega arith; words = simp length-set (omega arith); source = omega arith }
+    record { inside = omega arith; words = simp length-set (omega arith) }
 
 pub returns : goal.returns
 unfolding piece
@@ -23,6 +23,6 @@ returns c =
     let k = c.args.k in
     let i = slot p k in
     let e : c.note_cells.new.p ≡ noted_cells (with_set p i 0 0) i (piece c.args.c.now p k) =
-    c.note_cells.ensures ∙ ap (λ n. noted_cells (with_set p i 0 0) i (cells_at c.args.c.now (1024 * i) n)) c.used-n.ensures in
+    c.note_cells.ensures ∙ ap (noted_cells (with_set p i 0 0) i) c.part.ensures.cells ∙ ap (λ n. noted_cells (with_set p i 0 0) i (cells_at c.args.c.now (1024 * i) n)) c.used-n.ensures in
     let h = remarked c.args.c.now p c.note_cells.new.p c.args.s k c.requires.store c.requires.here e in
     record { is = e; beside = h.0; store = h.1 }

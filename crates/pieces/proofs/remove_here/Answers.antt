@@ -4,9 +4,9 @@ use Rattle.pieces.proofs.remove_here.Goals as goal
 
 pub returns : goal.returns
 returns c =
-    let small = c.requires.store.table.order.small c.args.k c.requires.here in
+    let small = c.requires.store.table.order.small c.args.at.piece c.requires.here in
     record {
-      changed = replaced_here c.args.c.now c.args.p.now c.remove_cells.new.c c.resize.new.p c.args.s c.args.k c.args.o c.args.n _ []
+      changed = replaced_here c.args.c.now c.args.p.now c.remove_cells.new.c c.resize.new.p c.args.s c.args.at.piece c.args.at.offset c.args.n _ []
           c.requires.store.table.order c.requires.here c.requires.within (omega arith) (omega arith) c.remove_cells.ensures c.resize.ensures.resized;
       sums = c.resize.ensures.sums;
     }

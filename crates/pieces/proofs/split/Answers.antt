@@ -7,7 +7,7 @@ shift-requires c =
     let p = c.args.p.now in
     let r = c.rotate-2.new.p in
     let s = c.args.s in
-    let k = c.args.k in
+    let k = c.args.at.piece in
     let w = c.requires.store.table.order in
     let w' = rotated_order p c.rotate.new.p r s k w c.requires.here c.rotate.ensures c.rotate-2.ensures in
     let next = rotated_next p c.rotate.new.p r s k w c.requires.here c.rotate.ensures c.rotate-2.ensures c.requires.spare in
@@ -27,7 +27,7 @@ pub returns : goal.returns
 returns c =
     record {
       cut = cut c.args.c.now c.args.p.now c.rotate.new.p c.rotate-2.new.p c.shift.new.c c.shift.new.p c.recount.new.p
-          c.args.s c.args.k c.args.o _ c.requires.store.table.order c.requires.here c.requires.within c.requires.spare
+          c.args.s c.args.at.piece c.args.at.offset _ c.requires.store.table.order c.requires.here c.requires.within c.requires.spare
           c.rotate.ensures c.rotate-2.ensures (omega (arith, c.used.ensures)) c.shift.ensures c.recount.ensures.same;
       sums = c.recount.ensures.sums;
     }

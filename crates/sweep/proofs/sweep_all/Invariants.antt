@@ -1,13 +1,18 @@
-use Rattle.std.proofs.Common.{◌≡◌, ℕ, ◌<◌, ◌≤◌, length, take, drop}
-use Rattle.changes.specs.Row.{changes_of}
-use Rattle.pieces.specs.Store.{piece, Store, Frame}
+use Rattle.std.proofs.Common.{◌≡◌, ℕ, ◌<◌, ◌≤◌}
+use Rattle.changes.specs.Rows.{changes_in}
+use Rattle.pieces.specs.Store.{piece, Frame}
 use Rattle.sweep.specs.Sweep.{swept}
 use Rattle.sweep.proofs.sweep_all.Given as goal
 
 abbrev pub invariant-loop-k : goal.invariant-loop-k
 invariant-loop-k l =
-    Store l.c (drop l.at.tables l.w) l.at.slots × Frame l.initial.c (drop l.at.tables l.initial.w) l.c (drop l.at.tables l.w) l.at.slots
-    × ((j : ℕ) → j < l.k → piece l.c (drop l.at.tables l.w) j ≡ swept l.action (changes_of (drop 16 l.initial.w) l.at.row) (piece l.initial.c (drop l.at.tables l.initial.w) j))
-    × ((j : ℕ) → l.k ≤ j → j < l.at.slots → piece l.c (drop l.at.tables l.w) j ≡ piece l.initial.c (drop l.at.tables l.initial.w) j)
-    × (take l.at.tables l.w ≡ take l.at.tables l.initial.w)
-    × (length l.w ≡ length l.initial.w)
+    let old = l.initial.text in
+    let new = l.text in
+    record {
+      same_cells : new.cells.ghost_name ≡ old.cells.ghost_name;
+      same_tables : new.tables.ghost_name ≡ old.tables.ghost_name;
+      same_slots : new.slots ≡ old.slots;
+      frame : Frame old.cells.now old.tables.now new.cells.now new.tables.now old.slots;
+      done : (j : ℕ) → j < l.k → piece new.cells.now new.tables.now j ≡ swept l.action (changes_in l.row) (piece old.cells.now old.tables.now j);
+      others : (j : ℕ) → l.k ≤ j → j < old.slots → piece new.cells.now new.tables.now j ≡ piece old.cells.now old.tables.now j;
+    }

@@ -1,5 +1,5 @@
 use Rattle.std.proofs.Common.{refl, arith}
-use Rattle.changes.specs.Row.{changes_of}
+use Rattle.changes.specs.Rows.{changes_in}
 use Rattle.slots.specs.Cells.{cells_at}
 use Rattle.slots.proofs.Words.{kept_none}
 use Rattle.sweep.specs.Sweep.{swept}
@@ -8,12 +8,12 @@ use Rattle.sweep.proofs.sweep_cells.Goals as goal
 
 pub loop-i-init : goal.loop-i-init
 unfolding cells_at swept
-loop-i-init c = (omega arith, refl, kept_none c.args.c.now c.args.at)
+loop-i-init c = record { behind = omega arith; cells = refl; kept = kept_none c.args.c.now c.args.at }
 
 pub loop-i-preserved : goal.loop-i-preserved
 loop-i-preserved c =
     let inv = c.loop-i.invariant in
     let e = c.sweep_cell-stay.ensures in
     let s = swept_step c.args.c.now c.loop-i.c c.sweep_cell-stay.new.c c.args.at c.loop-i.i c.loop-i.stay c.sweep_cell-stay.result
-    c.args.action (changes_of c.args.changes.now c.args.row) inv.0 e.behind inv.1 inv.2 e.cells e.kept in
-    (e.behind, s.0, s.1)
+    c.args.action (changes_in c.args.row.now) inv.behind e.behind inv.cells inv.kept e.cells e.kept in
+    record { behind = e.behind; cells = s.0; kept = s.1 }

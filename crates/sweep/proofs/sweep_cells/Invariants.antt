@@ -1,10 +1,13 @@
 use Rattle.std.proofs.Common.{◌≡◌, ◌≤◌}
-use Rattle.changes.specs.Row.{changes_of}
+use Rattle.changes.specs.Rows.{changes_in}
 use Rattle.slots.specs.Cells.{cells_at, Kept}
 use Rattle.sweep.specs.Sweep.{swept}
 use Rattle.sweep.proofs.sweep_cells.Given as goal
 
 abbrev pub invariant-loop-i : goal.invariant-loop-i
 invariant-loop-i l =
-    (l.stay ≤ l.i) × (cells_at l.c l.at l.stay ≡ swept l.action (changes_of l.changes l.row) (cells_at l.initial.c l.at l.i))
-    × Kept l.initial.c l.c l.at l.i
+    record {
+      behind : l.stay ≤ l.i;
+      cells : cells_at l.c l.at l.stay ≡ swept l.action (changes_in l.row) (cells_at l.initial.c l.at l.i);
+      kept : Kept l.initial.c l.c l.at l.i;
+    }

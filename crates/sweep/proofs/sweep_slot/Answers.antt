@@ -1,17 +1,15 @@
-use Rattle.changes.specs.Row.{changes_of}
-use Rattle.sweep.proofs.Steps.{left_here, swept_here}
+use Rattle.std.proofs.Common.{◌+◌, ◌∙◌, arith}
+use Rattle.slots.proofs.Words.{kept_cells_below, kept_cells_above}
 use Rattle.sweep.proofs.sweep_slot.Goals as goal
 
-pub returns : goal.returns
-returns c =
-    let small = c.requires.order.small c.args.k c.requires.here in
+pub returns-clause-cells : goal.returns-clause-cells
+returns-clause-cells c =
+    let left = c.sweep_cells-left.result in
     let e = c.sweep_cells-left.ensures in
-    let cs = changes_of c.args.changes.now c.args.row in
-    record {
-      filled = swept_here c.args.c.now c.sweep_cells-left.new.c c.copy.new.c c.args.p.now c.args.k c.args.o c.args.n c.number_of-at.result
-          c.sweep_cells-left.result c.args.action cs c.requires.within small e.few c.number_of-at.ensures e.cells e.kept
-          (rw c.used.ensures at c.copy.ensures.copied) (rw c.used.ensures at c.copy.ensures.kept);
-      left = left_here c.args.c.now c.sweep_cells-left.new.c c.copy.new.c c.args.p.now c.args.k c.args.o c.args.n c.number_of-at.result
-          c.sweep_cells-left.result c.args.action cs c.requires.within small e.few c.number_of-at.ensures e.cells e.kept;
-      few = e.few;
-    }
+    kept_cells_below _ _ _ _ c.copy.ensures.kept c.args.at left (omega arith) ∙ e.cells
+
+pub returns-clause-moved : goal.returns-clause-moved
+returns-clause-moved c =
+    let at = c.args.at in
+    let n = c.args.n in
+    c.copy.ensures.copied ∙ kept_cells_above c.args.c.now c.sweep_cells-left.new.c at n c.sweep_cells-left.ensures.kept (at + n) c.args.behind (omega arith)

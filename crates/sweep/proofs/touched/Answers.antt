@@ -6,11 +6,14 @@ use Rattle.sweep.proofs.touched.Goals as goal
 
 pub loop-k-init : goal.loop-k-init
 unfolding paper.touched strung
-loop-k-init c = (refl, omega arith)
+loop-k-init c = record { count = refl; few = omega arith }
 
 pub loop-k-preserved : goal.loop-k-preserved
 loop-k-preserved c =
     let inv = c.loop-k.invariant in
     let e = c.touched_piece-count.ensures in
     let few = e.few in
-    (touched_next c.args.c.now c.args.p.now c.loop-k.k c.args.change c.loop-k.count c.touched_piece-count.result e.count inv.0, omega arith)
+    record {
+      count = touched_next c.args.text.now.cells.now c.args.text.now.tables.now c.loop-k.k c.args.change c.loop-k.count c.touched_piece-count.result e.count inv.count;
+      few = omega arith;
+    }

@@ -4,4 +4,4 @@ use Rattle.slots.specs.Cells.{cells_at}
 use Rattle.sweep.proofs.touched_cells.Given as goal
 
 abbrev pub invariant-loop-i : goal.invariant-loop-i
-invariant-loop-i l = (l.count ≡ touched (cells_at l.c l.at l.i) l.change) × (l.count ≤ l.i)
+invariant-loop-i l = record { count : l.count ≡ touched (cells_at l.cells 0 l.i) l.change; few : l.count ≤ l.i }

@@ -1,9 +1,0 @@
-use Rattle.std.proofs.Common.{sym, ap, ◌∙◌}
-use Rattle.slots.specs.Cells.{cell_at}
-use Rattle.pieces.proofs.Texts.{text_at}
-use Rattle.pieces.proofs.cell.Goals as goal
-
-pub returns : goal.returns
-returns c =
-    c.read.ensures ∙ ap (cell_at c.args.c.now) c.«number_of».ensures
-    ∙ sym (text_at c.args.c.now c.args.p.now c.args.s c.args.k c.args.j c.requires.here c.requires.within)

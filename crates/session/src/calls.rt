@@ -1,0 +1,135 @@
+// A call that could be read: it is done, or refused. The checks run in the order of the refusals' numbers.
+ghost use Rattle.std.specs.Prelude.{◌≡◌, ◌≤◌, true, false, length};
+ghost use Rattle.model.specs.Calls.{count as counts, good_fields, number, put as puts, show as shows};
+ghost use Rattle.model.specs.Values.{way_number};
+ghost use Rattle.codec.specs.Values.{meaning};
+ghost use Rattle.session.specs.Range.{is_show};
+
+use crate::deciding::run_in;
+use crate::desk::Desk;
+use crate::{Refusal, cells, range};
+use codec::{Answer, Call};
+use model::{Verdict, Way};
+
+/// Which rows are shown: in which way to look, how wide, from which on, how many.
+#[derive(Clone, Copy, Debug, PartialEq, Eq, Hash)]
+pub struct Rows {
+    pub way: Way,
+    pub width: u32,
+    pub first: u32,
+    pub count: u32,
+}
+
+impl<'a> Desk<'a> {
+    ghost use Rattle.session.specs.Desks.{Acts, Ended, Looks, Serves};
+    ghost use Rattle.session.specs.Refusals.{outcome};
+
+    /// Does a call, or refuses it. The answer is written into the first bytes of `answer`, and how many those are is returned.
+    pub fn serve(&mut self, call: Call, letters: &[u8], answer: &mut [u8]) -> Result<usize, Refusal>
+        requires { 262405 ≤ length answer.old }
+        ensures { Serves self.old self.new (meaning call letters.now) answer.old answer.new result }
+    {
+        if !range::within(call, letters) {
+            return Err(Refusal::OutOfRange);
+        }
+        match call {
+            Call::Show {
+                way,
+                width,
+                row,
+                count,
+            } => {
+                let rows = Rows {
+                    way: Way::try_from(way).unwrap(),
+                    width,
+                    first: row,
+                    count,
+                };
+                self.show(rows, answer)
+            }
+            _ => {
+                let short = self.act(call, letters)?;
+                Ok(codec::write(short, answer))
+            }
+        }
+    }
+
+    /// Does a call in range whose answer is short, or refuses it. A call that this stage cannot do is out of range.
+    fn act(&mut self, call: Call, letters: &[u8]) -> Result<Answer, Refusal>
+        requires good { good_fields (meaning call letters.now) ≡ true }
+        requires short { is_show call ≡ false }
+        ensures { Acts self.old self.new (meaning call letters.now) (outcome result) }
+    {
+        match call {
+            Call::Put {
+                author,
+                place,
+                style,
+            } => self.put(author, place, style, letters),
+            Call::Strike {
+                author,
+                place,
+                count,
+            } => self.strike(author, place, count),
+            Call::Accept { change } => self.decide(change, Verdict::Accepted),
+            Call::Reject { change } => self.decide(change, Verdict::Rejected),
+            Call::Style {
+                place,
+                count,
+                style,
+            } => self.style(place, count, style),
+            Call::Count { way } => Ok(Answer::Number(self.count(Way::try_from(way).unwrap()))),
+            Call::Change { change } => self.ask(change),
+            Call::Show { .. } => unreachable(),
+            Call::Undo => Err(Refusal::OutOfRange),
+            Call::Redo => Err(Refusal::OutOfRange),
+            Call::Find { .. } => Err(Refusal::OutOfRange),
+            Call::Save { .. } => Err(Refusal::OutOfRange),
+        }
+    }
+
+    /// An author puts letters before a cell, or at the end: a new change, whose number is the answer.
+    fn put(
+        &mut self,
+        author: u32,
+        place: u32,
+        style: u32,
+        letters: &[u8],
+    ) -> Result<Answer, Refusal>
+        requires good { good_fields (puts author place style letters.now) ≡ true }
+        ensures { Acts self.old self.new (puts author place style letters.now) (outcome result) }
+    {
+        let count = self.count_cells();
+        let Some(at) = run_in(count, place, 0) else {
+            return Err(Refusal::NoSuchCells { field: 1 });
+        };
+        let number = self.room(count + letters.len())?;
+        cells::insert(self.cells, self.pieces, at, letters, style, number);
+        self.add_change(author);
+        Ok(Answer::Number(number))
+    }
+
+    /// How many letters are seen in a way to look.
+    fn count(&self, way: Way) -> u32
+        ensures { Looks self.now (counts (way_number way)) (number result) }
+    {
+        layout::count(&self.text(), way) as u32
+    }
+
+    /// Rows of a width in a way to look: the whole answer is written, and its length is returned.
+    fn show(&self, rows: Rows, answer: &mut [u8]) -> Result<usize, Refusal>
+        requires good { good_fields (shows (way_number rows.way) rows.width rows.first rows.count) ≡ true }
+        requires room { 262405 ≤ length answer.old }
+        ensures { Ended self.now.cells.now self.now.pieces.now (shows (way_number rows.way) rows.width rows.first rows.count) self.now.cells.now self.now.pieces.now answer.old answer.new result }
+    {
+        layout::show(
+            &self.text(),
+            rows.way,
+            rows.width,
+            rows.first,
+            rows.count,
+            answer,
+        )
+        .ok_or(Refusal::NoSuchRows)
+    }
+}
