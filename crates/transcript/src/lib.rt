@@ -73,6 +73,7 @@ fn tell(answer: &[u8], out: &mut Vec<u8>) -> Result<(), Fault>
 fn refuse(refusal: Refusal, out: &mut Vec<u8>) -> Result<(), Fault>
     ensures { Appends (told_line (refusal_told refusal)) out.old.items out.new.items result }
 {
+    // As many bytes as a refusal has.
     let mut bytes = [0; 9];
     let _long = codec::write(Answer::from(refusal), &mut bytes);
     tell(&bytes, out)
