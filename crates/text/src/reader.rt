@@ -206,7 +206,7 @@ fn push_word(out: &mut Vec<u8>, n: u32) -> Result<(), AllocError>
     out.extend_from_slice(&n.to_le_bytes())
 }
 
-// The bytes of call number `k`.
+// The bytes of call number `k`. A flag beside the letters, as the shape has it: an `Option` would be made of the two only to be taken apart.
 fn write_call(
     heap: Global,
     k: u8,
@@ -237,6 +237,7 @@ fn read_as(heap: Global, line: &[u8], k: u8) -> Result<Vec<u8>, Fault>
     ensures { MatchResult result (λ v. Makes (call_in k line.now) v.items) (Fails (call_in k line.now) line.now) }
 {
     let shape = Shape::of(k);
+    // An array, as a vector could want memory where no line does: no call has more numbers.
     let mut all = [0; 4];
     let numbers = &mut all[..shape.count];
     let mut text = Vec::new(heap);
@@ -253,6 +254,7 @@ pub fn read_line(heap: Global, line: &[u8]) -> Result<Vec<u8>, Fault>
     ensures { MatchResult result (λ v. BytesOf (line_reading line.now) v.items) (RefusedAt (line_reading line.now)) }
 {
     let mut far: usize = 0;
+    // The numbers that a call's bytes begin with.
     for k in 0..12 {
         match read_as(heap, line, k) {
             Ok(call) => return Ok(call),

@@ -10,6 +10,7 @@ use crate::fault::{Fault, Stop};
 use itoa::Buffer;
 use std::alloc::{AllocError, Global};
 
+// An index, as a cell's numbers stand at fixed places in it.
 fn word(bytes: &[u8], at: usize) -> u32
     requires { at + 4 ≤ length bytes.now }
     ensures { result ≡ word_at bytes.now at }

@@ -16,12 +16,13 @@ use Rattle.session.specs.Contract.{Does, Called, good_limits, enough}
 use Rattle.text.specs.Lines.{Reading, means, line_reading, limits_reading, BytesOf, Lacks}
 use Rattle.text.specs.Shown.{showable, answer_line}
 use Rattle.text.specs.declared.fault.Fault.{Fault}
-use Rattle.transcript.specs.Transcript.{line_answer, line_after, line_answers, call_lines, room_for, limits_for, answers_under, answers_after, file_answers, told_at, told_line, told_lines, transcript}
-use Rattle.transcript.specs.declared.Refusal.{Refusal}
-use Rattle.transcript.specs.declared.Refusal.TheVariants.{Line, NoDesk, NoRoom}
+use Rattle.transcript.specs.Transcript.{line_answer, line_after, line_answers, call_lines, room_for, limits_for, answers_under, answers_after, file_answers, told_line, told_lines, transcript}
+use Rattle.session.specs.declared.refusal.Refusal.{Refusal}
+use Rattle.session.specs.declared.refusal.Refusal.TheVariants.{LimitsOutOfRange, TooLittleMemory}
+use Rattle.session.specs.Refusals.{refusal_number, refusal_place, refusal_told}
 use Rattle.transcript.specs.declared.open.OpenDesk.{OpenDesk}
 use Rattle.transcript.specs.Open.{limits_at, StandsFor}
-use Rattle.transcript.specs.Serving.{Appends, Reached, CallDone, Answered, Going, said}
+use Rattle.transcript.specs.Serving.{Appends, Reached, CallDone, Answered, Going}
 use Rattle.transcript.proofs.Letters.{answer_shows, refusal_shows, reached_after}
 
 bytes_below : (xs : List ℕ) → ((i : ℕ) → get_or xs i 0 < 256) → all_below 256 xs ≡ true
@@ -133,24 +134,17 @@ room_answers n c u lines h = rw (room_good n c u h, h) refl
 pub told_whole : (a : Answer) (line out : List ℕ) → line ≡ answer_line a → (out ++ line) ++ (10 ∷ []) ≡ out ++ told_line a
 told_whole a line out is = append_assoc out line (10 ∷ []) ∙ ap (λ (xs : List ℕ). out ++ (xs ++ (10 ∷ []))) is
 
-said_nine : (e : Refusal) → length (answer_bytes (said e)) ≡ 9
+refusal_nine : (n i : ℕ) → length (answer_bytes (refused n i)) ≡ 9
 unfolding answer_bytes words_bytes word_bytes
-said_nine (Line i) = refl
-said_nine NoDesk = refl
-said_nine NoRoom = refl
-
-said_shows : (e : Refusal) → showable (said e) ≡ true
-said_shows (Line i) = refusal_shows 1 (told_at i)
-said_shows NoDesk = refusal_shows 3 1
-said_shows NoRoom = refusal_shows 3 0
+refusal_nine n i = refl
 
 -- a refusal's bytes, in just as many
-pub refusal_told : (e : Refusal) (a : Answer) (bytes was out out' : List ℕ) (long : ℕ) (r : Result (Unit {0}) Fault) → a ≡ said e → bytes ≡ answer_bytes a ++ drop long was → long ≡ length (answer_bytes a) → length was ≤ 9 →
-    ((a : Answer) → showable a ≡ true → bytes ≡ answer_bytes a → Appends (told_line a) out out' r) → Appends (told_line (said e)) out out' r
-refusal_told e a bytes was out out' long r same is size short tells =
-    let nine : length (answer_bytes a) ≡ 9 = ap (λ b. length (answer_bytes b)) same ∙ said_nine e in
+pub refusal_bytes : (e : Refusal) (a : Answer) (bytes was out out' : List ℕ) (long : ℕ) (r : Result (Unit {0}) Fault) → a ≡ refusal_told e → bytes ≡ answer_bytes a ++ drop long was → long ≡ length (answer_bytes a) → length was ≤ 9 →
+    ((a : Answer) → showable a ≡ true → bytes ≡ answer_bytes a → Appends (told_line a) out out' r) → Appends (told_line (refusal_told e)) out out' r
+refusal_bytes e a bytes was out out' long r same is size short tells =
+    let nine : length (answer_bytes a) ≡ 9 = ap (λ b. length (answer_bytes b)) same ∙ refusal_nine (refusal_number e) (refusal_place e) in
     let none : drop long was ≡ [] = drop_all long was (omega arith) in
-    tells (said e) (said_shows e) (is ∙ (ap (λ (xs : List ℕ). answer_bytes a ++ xs) none ∙ (append-nil (answer_bytes a) ∙ ap answer_bytes same)))
+    tells (refusal_told e) (refusal_shows (refusal_number e) (refusal_place e)) (is ∙ (ap (λ (xs : List ℕ). answer_bytes a ++ xs) none ∙ (append-nil (answer_bytes a) ∙ ap answer_bytes same)))
 
 -- memory that is enough for any desk that there is room for
 pub room_enough : (n c u : ℕ) (cs ps us : List ℕ) → room_for n c u ≡ true → length cs ≡ 28672 → length ps ≡ 10512 → (good_limits n c u && enough n c u cs ps us) ≡ true
@@ -180,20 +174,20 @@ unfolding told_lines
 one_told a = append-nil (told_line a)
 
 -- limits that are refused
-pub limits_refused : (rd : Reading (List ℕ)) (n c u : ℕ) (e : Refusal) → rd ≡ means (n ∷ (c ∷ (u ∷ []))) → room_for n c u ≡ false → e ≡ pick (good_limits n c u) NoRoom NoDesk →
-    (lines : List (List ℕ)) → answers_after rd lines ≡ said e ∷ []
+pub limits_refused : (rd : Reading (List ℕ)) (n c u : ℕ) (e : Refusal) → rd ≡ means (n ∷ (c ∷ (u ∷ []))) → room_for n c u ≡ false → e ≡ pick (good_limits n c u) TooLittleMemory LimitsOutOfRange →
+    (lines : List (List ℕ)) → answers_after rd lines ≡ refusal_told e ∷ []
 limits_refused rd n c u e is none why lines =
     ap (λ (x : Reading (List ℕ)). answers_after x lines) is
     ∙ (ap (λ (b : Bool). pick (good_limits n c u) (pick b (line_answers (limits_for n c u) new_desk lines) (refused 3 0 ∷ [])) (refused 3 1 ∷ [])) none
-    ∙ (both (good_limits n c u) ∙ ap (λ (x : Refusal). said x ∷ []) (sym why)))
+    ∙ (both (good_limits n c u) ∙ ap (λ (x : Refusal). refusal_told x ∷ []) (sym why)))
   where
-    both : (b : Bool) → pick b (refused 3 0 ∷ []) (refused 3 1 ∷ []) ≡ said (pick b NoRoom NoDesk) ∷ []
+    both : (b : Bool) → pick b (refused 3 0 ∷ []) (refused 3 1 ∷ []) ≡ refusal_told (pick b TooLittleMemory LimitsOutOfRange) ∷ []
     both true = refl
     both false = refl
 
-pub file_refused : (rd : Reading (List ℕ)) (e : Refusal) (lines : List (List ℕ)) (out out' : List ℕ) (r : Result (Unit {0}) Fault) → answers_after rd lines ≡ said e ∷ [] →
-    Appends (told_line (said e)) out out' r → Appends (told_lines (answers_after rd lines)) out out' r
-file_refused rd e lines out out' r is h = subst (λ (bs : List ℕ). Appends bs out out' r) (sym (ap told_lines is ∙ one_told (said e))) h
+pub file_refused : (rd : Reading (List ℕ)) (e : Refusal) (lines : List (List ℕ)) (out out' : List ℕ) (r : Result (Unit {0}) Fault) → answers_after rd lines ≡ refusal_told e ∷ [] →
+    Appends (told_line (refusal_told e)) out out' r → Appends (told_lines (answers_after rd lines)) out out' r
+file_refused rd e lines out out' r is h = subst (λ (bs : List ℕ). Appends bs out out' r) (sym (ap told_lines is ∙ one_told (refusal_told e))) h
 
 pub file_served : (rd : Reading (List ℕ)) (n c u : ℕ) (l : Limits) (lines : List (List ℕ)) (out out' : List ℕ) (r : Result (Unit {0}) Fault) → rd ≡ means (n ∷ (c ∷ (u ∷ []))) →
     room_for n c u ≡ true → l ≡ limits_for n c u → Appends (told_lines (line_answers l new_desk lines)) out out' r → Appends (told_lines (answers_after rd lines)) out out' r

@@ -1,17 +1,18 @@
 -- What the parts of the program promise. Definitions only: nothing is assumed.
 use Rattle.std.specs.Prelude.{◌≡◌, ℕ, true, false, List, [], ◌∷◌, ◌++◌, Result, MatchResult}
 use Rattle.model.specs.Paper.{pick}
-use Rattle.model.specs.Calls.{Call, Answer, refused, Desk, Limits as DeskLimits, after, answer, ran, new_desk}
+use Rattle.model.specs.Calls.{Call, Desk, Limits as DeskLimits, after, answer, ran, new_desk}
 use Rattle.codec.specs.Bytes.{call_bytes}
 use Rattle.session.specs.Contract.{good_limits}
 use Rattle.session.specs.declared.Limits.{Limits}
 use Rattle.text.specs.Lines.{Reading, means, line_reading, Lacks}
 use Rattle.text.specs.declared.fault.Fault.{Fault}
-use Rattle.transcript.specs.declared.Refusal.{Refusal}
-use Rattle.transcript.specs.declared.Refusal.TheVariants.{Line, NoDesk, NoRoom}
+use Rattle.session.specs.declared.refusal.Refusal.{Refusal}
+use Rattle.session.specs.declared.refusal.Refusal.TheVariants.{LimitsOutOfRange, TooLittleMemory}
+use Rattle.session.specs.Refusals.{refusal_told}
 use Rattle.transcript.specs.declared.open.OpenDesk.{OpenDesk}
 use Rattle.transcript.specs.Open.{limits_at, StandsFor}
-use Rattle.transcript.specs.Transcript.{room_for, line_answer, line_after, line_answers, call_lines, answers_after, told_at, told_line, told_lines}
+use Rattle.transcript.specs.Transcript.{room_for, line_answer, line_after, line_answers, call_lines, answers_after, told_line, told_lines}
 
 -- bytes were appended, or there is no memory
 abbrev pub Appends : List ℕ → List ℕ → List ℕ → Result (Unit {0}) Fault → Type 0
@@ -40,18 +41,12 @@ pub record Going (m : OpenDesk) (file out : List ℕ) (m' : OpenDesk) (rest out'
   pub going : (d : Desk) → Reached (limits_at m) d → StandsFor m d →
       (e : Desk) × Reached (limits_at m) e × StandsFor m' e × (out' ++ told_lines (line_answers (limits_at m) e (call_lines rest)) ≡ out ++ told_lines (line_answers (limits_at m) d (call_lines file)))
 
--- what a refusal says
-abbrev pub said : Refusal → Answer
-said (Line i) = refused 1 (told_at i)
-said NoDesk = refused 3 1
-said NoRoom = refused 3 0
-
 -- There is room for limits, or they are refused: because no desk can have them, or else because there is no room.
 abbrev pub RoomFound : (n c u : ℕ) → Result (Unit {0}) Refusal → Type 0
-RoomFound n c u r = MatchResult r (λ _. room_for n c u ≡ true) (λ e. (room_for n c u ≡ false) × (e ≡ pick (good_limits n c u) NoRoom NoDesk))
+RoomFound n c u r = MatchResult r (λ _. room_for n c u ≡ true) (λ e. (room_for n c u ≡ false) × (e ≡ pick (good_limits n c u) TooLittleMemory LimitsOutOfRange))
 
 -- The limits of a first line, for which there is room, or the refusal that is the only answer to the file.
 abbrev pub LimitsFound : Reading (List ℕ) → Result Limits Refusal → Type 0
 LimitsFound rd r =
     MatchResult r (λ l. (rd ≡ means (l.cells ∷ (l.changes ∷ (l.undos ∷ [])))) × (room_for l.cells l.changes l.undos ≡ true))
-    (λ e. (lines : List (List ℕ)) → answers_after rd lines ≡ said e ∷ [])
+    (λ e. (lines : List (List ℕ)) → answers_after rd lines ≡ refusal_told e ∷ [])

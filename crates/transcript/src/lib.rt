@@ -1,19 +1,20 @@
 // The answers to a file of calls, a line for each. What they are is in specs/.
 #![tactic(auto)]
 
-ghost use Rattle.std.specs.Prelude.{◌≡◌, ◌<◌, ◌≤◌, min, true, [], ◌∷◌, length, MatchOption, MatchResult};
+ghost use Rattle.std.specs.Prelude.{◌≡◌, ◌<◌, true, [], ◌∷◌, length, MatchOption, MatchResult};
 ghost use Rattle.model.specs.Calls.{Answer as Saying};
 ghost use Rattle.codec.specs.Bytes.{answer_bytes};
+ghost use Rattle.session.specs.Refusals.{refusal_told};
 ghost use Rattle.text.specs.Lines.{Lacks, limits_reading};
 ghost use Rattle.text.specs.Shown.{showable};
-ghost use Rattle.transcript.specs.Serving.{Appends, LimitsFound, RoomFound, said};
+ghost use Rattle.transcript.specs.Serving.{Appends, LimitsFound, RoomFound};
 ghost use Rattle.transcript.specs.Transcript.{AnswersCalls, answers_after, call_lines, lines_of, passed_over, told_line, told_lines, transcript};
 
 mod open;
 
 use codec::Answer;
 use open::OpenDesk;
-use session::Limits;
+use session::{Limits, Refusal};
 use std::alloc::Global;
 use text::Fault;
 
@@ -23,32 +24,6 @@ const MOST_CELLS: u32 = 2048;
 const MOST_CHANGES: u32 = 128;
 
 const MOST_UNDOS: u32 = 2048;
-
-// Why a line is not done.
-#[derive(Clone, Copy)]
-enum Refusal {
-    // It does not fit, from this place on.
-    Line(usize),
-    // No desk can have these limits.
-    NoDesk,
-    // There is no room for them here.
-    NoRoom,
-}
-
-impl Refusal {
-    ghost use Rattle.codec.specs.Values.{told};
-
-    fn answer(self) -> Answer
-        ensures { told result ≡ said self }
-    {
-        // The numbers are those of the refusals of a desk.
-        match self {
-            Refusal::Line(at) => Answer::Refused(1, told_place(at)),
-            Refusal::NoDesk => Answer::Refused(3, 1),
-            Refusal::NoRoom => Answer::Refused(3, 0),
-        }
-    }
-}
 
 // The first line of a file, and what comes after it. A line ends with byte 10 or with the file.
 fn next_line(file: &[u8]) -> Option<(&[u8], &[u8])>
@@ -84,13 +59,6 @@ fn next_call(file: &[u8]) -> Option<(&[u8], &[u8])>
     None
 }
 
-// A place as far as four bytes can tell it.
-fn told_place(at: usize) -> u32
-    ensures { result ≡ min at 4294967295 }
-{
-    u32::try_from(at).unwrap_or(u32::MAX)
-}
-
 // Appends the line of an answer that can be shown, from its bytes.
 fn tell(answer: &[u8], out: &mut Vec<u8>) -> Result<(), Fault>
     ensures { (a : Saying) → showable a ≡ true → answer.now ≡ answer_bytes a → Appends (told_line a) out.old.items out.new.items result }
@@ -103,10 +71,11 @@ fn tell(answer: &[u8], out: &mut Vec<u8>) -> Result<(), Fault>
 
 // Appends the line of a refusal.
 fn refuse(refusal: Refusal, out: &mut Vec<u8>) -> Result<(), Fault>
-    ensures { Appends (told_line (said refusal)) out.old.items out.new.items result }
+    ensures { Appends (told_line (refusal_told refusal)) out.old.items out.new.items result }
 {
+    // As many bytes as a refusal has.
     let mut bytes = [0; 9];
-    let _long = codec::write(refusal.answer(), &mut bytes);
+    let _long = codec::write(Answer::from(refusal), &mut bytes);
     tell(&bytes, out)
 }
 
@@ -114,11 +83,11 @@ fn refuse(refusal: Refusal, out: &mut Vec<u8>) -> Result<(), Fault>
 fn check(limits: Limits) -> Result<(), Refusal>
     ensures { RoomFound limits.cells limits.changes limits.undos result }
 {
-    if limits.cells > 1_000_000 || limits.changes > 65_536 || limits.undos > 1_000_000 {
-        return Err(Refusal::NoDesk);
+    if !limits.are_allowed() {
+        return Err(Refusal::LimitsOutOfRange);
     }
     if limits.cells > MOST_CELLS || limits.changes > MOST_CHANGES || limits.undos > MOST_UNDOS {
-        return Err(Refusal::NoRoom);
+        return Err(Refusal::TooLittleMemory);
     }
     Ok(())
 }
@@ -137,7 +106,7 @@ fn limits_of(first: &[u8]) -> Result<Limits, Refusal>
             check(limits)?;
             Ok(limits)
         }
-        Err(at) => Err(Refusal::Line(at)),
+        Err(at) => Err(Refusal::NotACall { at }),
     }
 }
 

@@ -4,25 +4,24 @@ ghost use Rattle.std.proofs.Props.{props};
 ghost use Rattle.session.specs.Memory.{Sound};
 ghost use Rattle.transcript.specs.Transcript.{room_for};
 
-use crate::{Refusal, refuse, tell};
-use session::Limits;
+use crate::{refuse, tell};
+use session::{ANSWER_BYTES, Limits, Refusal};
 use std::alloc::{AllocError, Global};
 use text::Fault;
 
-// How many words and bytes it has: what the session asks for under the most limits, and the longest answer.
+// How many words it has: what the session asks for under the most limits.
 const CELLS_WORDS: usize = 28672;
 
 const PIECES_WORDS: usize = 10512;
 
 const UNDO_WORDS: usize = 1;
 
-const ANSWER_BYTES: usize = 262405;
-
 #[derive(Drop)]
 pub(crate) struct OpenDesk {
     cells: Vec<u32>,
     pieces: Vec<u32>,
     undo: Vec<u32>,
+    // Room for the longest answer.
     answer: Vec<u8>,
     ghost sound: { Sound cells.items pieces.items undo.items } by { Prim.hlevel props },
     ghost room: { 262405 ≤ vec_len answer },
@@ -90,7 +89,7 @@ impl OpenDesk {
     {
         match text::read_line(*out.allocator(), line) {
             Ok(call) => self.answer_call(call.as_slice(), out),
-            Err(Fault::Place(at)) => refuse(Refusal::Line(at), out),
+            Err(Fault::Place(at)) => refuse(Refusal::NotACall { at }, out),
             Err(Fault::Memory) => Err(Fault::Memory),
         }
     }
