@@ -1,4 +1,6 @@
 // The cells of a paper as marked letters of a page: what is put in is underlined and what is struck out is struck through, each in the colour of its author.
+// What has letters of the paper is appended by functions and is no `Display`: a letter may be any byte, and `Display` writes a `str`.
+// `out` and `changes` stay parameters: methods of a struct of both would each have to say that the changes stay as they were.
 #![tactic(auto)]
 
 ghost use Rattle.std.specs.Prelude.{◌≡◌, ◌-◌, ◌<◌, ◌++◌, map, OnOk, Some};

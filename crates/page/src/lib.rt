@@ -1,4 +1,5 @@
 // The page of a paper: everything with its marks, the paper as if all open changes were accepted and as if all were rejected, and the changes.
+// Appended by functions and no `Display`, as in `markup`.
 #![tactic(auto)]
 
 ghost use Rattle.model.specs.Values.{change_of, way_number};
@@ -85,6 +86,7 @@ fn push_author(out: &mut Vec<u8>, author: u32) -> Result<(), AllocError>
 fn push_authors(out: &mut Vec<u8>, changes: &[Change]) -> Result<(), AllocError>
     ensures { OnOk result (out.new.items ≡ out.old.items ++ authors_from 256 0 (map change_of changes.now)) }
 {
+    // A range of authors, and no index.
     for author in 0..256 {
         if has(changes, author) {
             push_author(out, author)?;
@@ -159,7 +161,15 @@ fn push_change(out: &mut Vec<u8>, number: usize, change: Change) -> Result<(), A
     ensures { OnOk result (out.new.items ≡ out.old.items ++ change_row number (change_of change)) }
 {
     let author = change.author;
-    write!(out, "<tr><td>{}</td><td{}>{}</td><td>{}</td></tr>\n", number, Colour { author }, author, became_of(change)).map_err(|_| AllocError)
+    write!(
+        out,
+        "<tr><td>{}</td><td{}>{}</td><td>{}</td></tr>\n",
+        number,
+        Colour { author },
+        author,
+        became_of(change)
+    )
+    .map_err(|_| AllocError)
 }
 
 fn push_changes(out: &mut Vec<u8>, changes: &[Change]) -> Result<(), AllocError>
