@@ -1,13 +1,11 @@
 -- What is appended, step by step.
-use Rattle.std.proofs.Common.{◌≡◌, ℕ, ◌+◌, ◌-◌, ◌<◌, ◌≤◌, true, false, eqb, List, [], ◌∷◌, ◌++◌, length, get_or, drop, codes, decimal, sym, ap, ◌∙◌}
-use Rattle.std.proofs.lemmas.Bool.{eq-eqb, ne_eqb}
-use Rattle.model.proofs.Picks.{pick_true, pick_false}
+use Rattle.std.proofs.Common.{◌≡◌, ℕ, ◌+◌, ◌<◌, ◌≤◌, List, [], ◌∷◌, ◌++◌, length, get_or, drop, codes, sym, ap, ◌∙◌}
 use Rattle.std.proofs.lemmas.List.{append_assoc, append-nil, drop_more, drop_all, nil_from_length}
-use Rattle.model.specs.Paper.{pick, Cell, Change}
+use Rattle.model.specs.Paper.{Cell, Change}
 use Rattle.printing.specs.declared.reading.Cell as code
 use Rattle.printing.specs.Values.{cell_of, cells_of}
 use Rattle.markup.specs.Plain.{escaped}
-use Rattle.markup.specs.Marked.{alike, author_by, bare, colour, said, title, mark_tag, opened, closed, between, following, marked}
+use Rattle.markup.specs.Marked.{opened, closed, between, following, marked}
 
 following_more : (out : List ℕ) (cs : List Change) (x y : Cell) (ys : List Cell) →
     ((out ++ between cs x y) ++ escaped y.letter) ++ following cs y ys ≡ out ++ following cs x (y ∷ ys)
@@ -36,43 +34,6 @@ following_over out whole cs x more i h q =
 marked_none : (out : List ℕ) (cs : List Change) → out ≡ out ++ marked cs []
 unfolding marked
 marked_none out cs = sym (append-nil out)
-
--- what is written of a mark, and of none
-pub said_none : (out words : List ℕ) (m : ℕ) → m ≡ 0 → out ≡ out ++ said words m
-said_none out words m e = sym (append-nil out) ∙ ap (λ bs. out ++ bs) (sym (pick_true (eqb m 0) [] (words ++ (decimal (m - 1) ++ codes ". ")) (eq-eqb m 0 e)))
-
-pub said_some : (words : List ℕ) (m : ℕ) → (m ≡ 0 → ⊥) → words ++ (decimal (m - 1) ++ codes ". ") ≡ said words m
-said_some words m h = sym (pick_false (eqb m 0) [] (words ++ (decimal (m - 1) ++ codes ". ")) (ne_eqb m 0 h))
-
-pub title_none : (out : List ℕ) (p k : ℕ) → bare p k ≡ true → out ≡ out ++ title p k
-title_none out p k e = sym (append-nil out) ∙ ap (λ bs. out ++ bs) (sym (pick_true (bare p k) [] _ e))
-
-pub title_some : (p k : ℕ) → bare p k ≡ false → codes " title='" ++ (said (codes "Put in by change ") p ++ (said (codes "Struck out by change ") k ++ codes "'")) ≡ title p k
-title_some p k e = sym (pick_false (bare p k) [] _ e)
-
-pub mark_none : (out start : List ℕ) (cs : List Change) (m : ℕ) → m ≡ 0 → out ≡ out ++ mark_tag start cs m
-mark_none out start cs m e = sym (append-nil out) ∙ ap (λ bs. out ++ bs) (sym (pick_true (eqb m 0) [] (start ++ (decimal (m - 1) ++ (codes "'" ++ (colour (author_by cs m) ++ codes ">")))) (eq-eqb m 0 e)))
-
-pub mark_some : (start : List ℕ) (cs : List Change) (m : ℕ) → (m ≡ 0 → ⊥) → start ++ (decimal (m - 1) ++ (codes "'" ++ (colour (author_by cs m) ++ codes ">"))) ≡ mark_tag start cs m
-mark_some start cs m h = sym (pick_false (eqb m 0) [] (start ++ (decimal (m - 1) ++ (codes "'" ++ (colour (author_by cs m) ++ codes ">")))) (ne_eqb m 0 h))
-
-nothing : (out : List ℕ) → out ≡ out ++ []
-nothing out = sym (append-nil out)
-
--- what stands between two letters
-module _ (cs : List Change) (x y : Cell) where
-  pub between_end : x.letter ≡ 10 → closed x.put_in x.struck ++ (codes "</p><p>" ++ opened cs y) ≡ between cs x y
-  between_end e = sym (pick_true (eqb x.letter 10) _ _ (eq-eqb x.letter 10 e))
-
-  module _ (h : x.letter ≡ 10 → ⊥) where
-    between_same : between cs x y ≡ pick (alike x y) [] (closed x.put_in x.struck ++ opened cs y)
-    between_same = pick_false (eqb x.letter 10) _ _ (ne_eqb x.letter 10 h)
-
-    pub between_none : (out : List ℕ) → alike x y ≡ true → out ≡ out ++ between cs x y
-    between_none out e = nothing out ∙ ap (λ ls. out ++ ls) (sym (between_same ∙ pick_true (alike x y) _ _ e))
-
-    pub between_new : alike x y ≡ false → closed x.put_in x.struck ++ opened cs y ≡ between cs x y
-    between_new e = sym (between_same ∙ pick_false (alike x y) _ _ e)
 
 -- all cells
 pub no_cells : (out : List ℕ) (cs : List Change) (xs : List code.Cell) → length xs ≡ 0 → out ≡ out ++ marked cs (cells_of xs)

@@ -1,7 +1,9 @@
 // The cells of a paper as marked letters of a page: what is put in is underlined and what is struck out is struck through, each in the colour of its author.
+// What has letters of the paper is appended by functions and is no `Display`: a letter may be any byte, and `Display` writes a `str`.
+// `out` and `changes` stay parameters: methods of a struct of both would each have to say that the changes stay as they were.
 #![tactic(auto)]
 
-ghost use Rattle.std.specs.Prelude.{◌≡◌, ◌-◌, ◌<◌, ◌++◌, map, OnOk};
+ghost use Rattle.std.specs.Prelude.{◌≡◌, ◌-◌, ◌<◌, ◌++◌, map, OnOk, Some};
 ghost use Rattle.markup.specs.Laws.{ReadsCells, ReadsLetters};
 ghost use Rattle.markup.specs.Marked.{alike as look_alike, author_by, bare, between, closed, colour, following, hue as hue_of, mark_tag, marked, opened, said, span, title};
 ghost use Rattle.markup.specs.Plain.{escaped};
@@ -11,7 +13,8 @@ ghost use Rattle.printing.specs.Values.{cell_of, cells_of};
 use model::Change;
 use printing::Cell;
 use std::alloc::AllocError;
-use text::push_number;
+use std::fmt;
+use std::io::Write;
 
 // The letter that ends a paragraph.
 const END: u8 = 10;
@@ -36,13 +39,18 @@ fn hue(author: u32) -> u64
     u64::from(author) % 360 * 137 % 360
 }
 
-pub fn push_colour(out: &mut Vec<u8>, author: u32) -> Result<(), AllocError>
-    ensures { OnOk result (out.new.items ≡ out.old.items ++ colour author) }
-{
-    out.extend_from_slice(b" style='color:hsl(")?;
-    push_number(out, hue(author))?;
-    out.extend_from_slice(b",70%,30%)'")?;
-    Ok(())
+// The colour of an author, as a tag names it.
+#[derive(Clone, Copy, Debug, PartialEq, Eq, Hash)]
+pub struct Colour {
+    pub author: u32,
+}
+
+impl fmt::Display for Colour {
+    ghost output = { λ c. Some (colour c.author) };
+
+    fn fmt<W: fmt::Write>(&self, f: &mut fmt::Formatter<W>) -> fmt::Result {
+        write!(f, " style='color:hsl({},70%,30%)'", hue(self.author))
+    }
 }
 
 // The author of the change whose mark a cell has.
@@ -56,16 +64,13 @@ fn author_of(changes: &[Change], mark: u32) -> u32
 }
 
 // A sentence for a mark, and nothing where there is none.
-fn push_said(out: &mut Vec<u8>, words: &[u8], mark: u32) -> Result<(), AllocError>
+fn push_said(out: &mut Vec<u8>, words: &str, mark: u32) -> Result<(), AllocError>
     ensures { OnOk result (out.new.items ≡ out.old.items ++ said words.now mark) }
 {
     if mark == 0 {
         return Ok(());
     }
-    out.extend_from_slice(words)?;
-    push_number(out, mark as u64 - 1)?;
-    out.extend_from_slice(b". ")?;
-    Ok(())
+    write!(out, "{}{}. ", words, mark - 1).map_err(|_| AllocError)
 }
 
 // Whether a cell has no marks.
@@ -83,8 +88,8 @@ fn push_title(out: &mut Vec<u8>, x: Cell) -> Result<(), AllocError>
         return Ok(());
     }
     out.extend_from_slice(b" title='")?;
-    push_said(out, b"Put in by change ", x.put_in)?;
-    push_said(out, b"Struck out by change ", x.struck)?;
+    push_said(out, "Put in by change ", x.put_in)?;
+    push_said(out, "Struck out by change ", x.struck)?;
     out.extend_from_slice(b"'")?;
     Ok(())
 }
@@ -92,9 +97,7 @@ fn push_title(out: &mut Vec<u8>, x: Cell) -> Result<(), AllocError>
 fn push_span(out: &mut Vec<u8>, x: Cell) -> Result<(), AllocError>
     ensures { OnOk result (out.new.items ≡ out.old.items ++ span (cell_of x)) }
 {
-    out.extend_from_slice(b"<span class='s")?;
-    push_number(out, x.style as u64)?;
-    out.extend_from_slice(b"'")?;
+    write!(out, "<span class='s{}'", x.style).map_err(|_| AllocError)?;
     push_title(out, x)?;
     out.extend_from_slice(b">")?;
     Ok(())
@@ -103,7 +106,7 @@ fn push_span(out: &mut Vec<u8>, x: Cell) -> Result<(), AllocError>
 // The tag for a mark, in the colour of its author, and nothing where there is none.
 fn push_mark(
     out: &mut Vec<u8>,
-    start: &[u8],
+    start: &str,
     changes: &[Change],
     mark: u32,
 ) -> Result<(), AllocError>
@@ -112,12 +115,10 @@ fn push_mark(
     if mark == 0 {
         return Ok(());
     }
-    out.extend_from_slice(start)?;
-    push_number(out, mark as u64 - 1)?;
-    out.extend_from_slice(b"'")?;
-    push_colour(out, author_of(changes, mark))?;
-    out.extend_from_slice(b">")?;
-    Ok(())
+    let colour = Colour {
+        author: author_of(changes, mark),
+    };
+    write!(out, "{}{}'{}>", start, mark - 1, colour).map_err(|_| AllocError)
 }
 
 // The tags before a letter.
@@ -125,8 +126,8 @@ fn push_open(out: &mut Vec<u8>, changes: &[Change], x: Cell) -> Result<(), Alloc
     ensures { OnOk result (out.new.items ≡ out.old.items ++ opened (map change_of changes.now) (cell_of x)) }
 {
     push_span(out, x)?;
-    push_mark(out, b"<ins data-change='", changes, x.put_in)?;
-    push_mark(out, b"<del data-change='", changes, x.struck)?;
+    push_mark(out, "<ins data-change='", changes, x.put_in)?;
+    push_mark(out, "<del data-change='", changes, x.struck)?;
     Ok(())
 }
 

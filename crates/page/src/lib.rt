@@ -1,4 +1,5 @@
 // The page of a paper: everything with its marks, the paper as if all open changes were accepted and as if all were rejected, and the changes.
+// Appended by functions and no `Display`, as in `markup`.
 #![tactic(auto)]
 
 ghost use Rattle.model.specs.Values.{change_of, way_number};
@@ -6,11 +7,11 @@ ghost use Rattle.page.specs.Page.{Paged, as_if, author_item, authors_from, bare 
 ghost use Rattle.printing.specs.Values.{cells_of, paper_of};
 ghost use Rattle.std.specs.Prelude.{◌≡◌, ◌++◌, map, IfOk, OnOk};
 
-use markup::{push_cells, push_colour};
+use markup::{Colour, push_cells};
 use model::{Change, Way};
 use printing::{Cell, Paper, ReadError, read_paper, refuse, view};
 use std::alloc::{AllocError, Global};
-use text::push_number;
+use std::io::Write;
 
 // What every page begins with.
 fn head_of() -> &'static [u8]
@@ -78,18 +79,14 @@ fn has(changes: &[Change], author: u32) -> bool
 fn push_author(out: &mut Vec<u8>, author: u32) -> Result<(), AllocError>
     ensures { OnOk result (out.new.items ≡ out.old.items ++ author_item author) }
 {
-    out.extend_from_slice(b"<li")?;
-    push_colour(out, author)?;
-    out.extend_from_slice(b">Author ")?;
-    push_number(out, author as u64)?;
-    out.extend_from_slice(b"</li>")?;
-    Ok(())
+    write!(out, "<li{}>Author {}</li>", Colour { author }, author).map_err(|_| AllocError)
 }
 
 // The authors who made changes.
 fn push_authors(out: &mut Vec<u8>, changes: &[Change]) -> Result<(), AllocError>
     ensures { OnOk result (out.new.items ≡ out.old.items ++ authors_from 256 0 (map change_of changes.now)) }
 {
+    // A range of authors, and no index.
     for author in 0..256 {
         if has(changes, author) {
             push_author(out, author)?;
@@ -149,13 +146,13 @@ fn settled(heap: Global, cells: &[Cell], way: Way) -> Result<Vec<Cell>, AllocErr
 }
 
 // By its number, as a change has it: a `Verdict` is of a decided change only.
-fn became_of(change: Change) -> &'static [u8]
+fn became_of(change: Change) -> &'static str
     ensures { result.now ≡ became_shown change.became }
 {
     match change.became {
-        0 => b"open",
-        1 => b"accepted",
-        _ => b"rejected",
+        0 => "open",
+        1 => "accepted",
+        _ => "rejected",
     }
 }
 
@@ -163,16 +160,16 @@ fn became_of(change: Change) -> &'static [u8]
 fn push_change(out: &mut Vec<u8>, number: usize, change: Change) -> Result<(), AllocError>
     ensures { OnOk result (out.new.items ≡ out.old.items ++ change_row number (change_of change)) }
 {
-    out.extend_from_slice(b"<tr><td>")?;
-    push_number(out, number as u64)?;
-    out.extend_from_slice(b"</td><td")?;
-    push_colour(out, change.author)?;
-    out.extend_from_slice(b">")?;
-    push_number(out, change.author as u64)?;
-    out.extend_from_slice(b"</td><td>")?;
-    out.extend_from_slice(became_of(change))?;
-    out.extend_from_slice(b"</td></tr>\n")?;
-    Ok(())
+    let author = change.author;
+    write!(
+        out,
+        "<tr><td>{}</td><td{}>{}</td><td>{}</td></tr>\n",
+        number,
+        Colour { author },
+        author,
+        became_of(change)
+    )
+    .map_err(|_| AllocError)
 }
 
 fn push_changes(out: &mut Vec<u8>, changes: &[Change]) -> Result<(), AllocError>
