@@ -1,10 +1,10 @@
 -- How many cells have the mark of a change.
-use Rattle.std.proofs.Common.{◌≡◌, ℕ, suc, ◌+◌, ◌*◌, Bool, true, false, ◌||◌, eqb, cond, List, [], ◌∷◌, ◌++◌, sym, refl, ap, ◌∙◌, add-zero, add_assoc, zero-add, arith}
+use Rattle.std.proofs.Common.{◌≡◌, ℕ, suc, ◌+◌, ◌*◌, Bool, true, false, ◌||◌, eqb, cond, List, [], ◌∷◌, ◌++◌, sym, refl, ap, ◌∙◌, add_assoc, zero-add, arith}
 use Rattle.std.specs.List.{AllByRecursion, count_by}
 use Rattle.std.proofs.lemmas.List.Recursion.{is_count_by}
 use Rattle.std.proofs.lemmas.Bool.{ne_eqb}
 use Rattle.model.specs.Paper.{pick, Cell, touched}
-use Rattle.slots.specs.Cells.{all_cells, cell_at, cells_at}
+use Rattle.slots.specs.Cells.{all_cells, cells_at}
 use Rattle.pieces.specs.Marks.{Lacks}
 use Rattle.pieces.specs.Store.{slot, used, number, piece, strung, pieces_from}
 use Rattle.pieces.proofs.Strung.{strung_more}

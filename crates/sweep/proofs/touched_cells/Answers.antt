@@ -1,5 +1,5 @@
 -- The cells that pass the test are counted.
-use Rattle.std.proofs.Common.{rules, ◌≡◌, ◌/◌, length, sym, ap, ◌∙◌, inl, arith}
+use Rattle.std.proofs.Common.{rules, ◌/◌, length, sym, ap, ◌∙◌, inl, arith}
 use Rattle.std.proofs.lemmas.Iterator.Consumers.{count_from_yields_List, YieldsList-from_filter, YieldsList-from_first}
 use Rattle.std.proofs.lemmas.List.Sums.{length-filter}
 use Rattle.model.specs.Values.{cell_of}
