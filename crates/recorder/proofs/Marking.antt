@@ -2,9 +2,9 @@
 use Rattle.std.proofs.Common.{◌≡◌, ℕ, suc, ◌+◌, ◌-◌, ◌*◌, ◌<◌, ◌≤◌, Bool, true, false, ◌||◌, eqb, List, [], ◌∷◌, ◌++◌, length, take, drop, set, sym, refl, ap, ◌∙◌, subst, add-zero, add_assoc, zero-add, add-one, arith}
 use Rattle.std.specs.List.{AllByRecursion}
 use Rattle.std.proofs.lemmas.Bool.{ne_eqb}
+use Rattle.std.proofs.lemmas.List.{append_assoc, length-append}
 use Rattle.model.specs.Paper.{pick, Cell, cells_written, touched}
-use Rattle.slots.specs.Cells.{cell_at, cells_at}
-use Rattle.slots.proofs.Words.{length_cells, cells_split, cells_more}
+use Rattle.slots.specs.Cells.{cells_at}
 use Rattle.pieces.specs.Marks.{Lacks}
 use Rattle.pieces.specs.Store.{slot, used, number, piece, strung, cells_of, pieces_from, before}
 use Rattle.pieces.proofs.Strung.{strung_more, strung_at}
@@ -115,27 +115,40 @@ marked_one u new x c i e h is =
       count = sym (touched_one x c e);
     }
 
--- one more of the cells with words w
-next_cells : (w : List ℕ) (i : ℕ) → cells_at w 0 (i + 1) ≡ cells_at w 0 i ++ (cell_at w i ∷ [])
-next_cells w i = cells_more w 0 i ∙ ap (λ a. cells_at w 0 i ++ (cell_at w a ∷ [])) (zero-add i)
+-- so many of the cells xs are marked, and the rest is left
+pub record Going (u new : List ℕ) (xs rest : List Cell) (change first i n : ℕ) : Type 0 where
+  pub done : List Cell
+  pub all : done ++ rest ≡ xs
+  pub many : length done ≡ i
+  pub marked : MarkedAt u new 0 done change first n
 
-pub cells_room : (w : List ℕ) (n i c : ℕ) → i < n → touched (cells_at w 0 i) c + touched (cell_at w i ∷ []) c ≤ touched (cells_at w 0 n) c
-cells_room w n i c l =
-    let e : i + 1 + (n - (i + 1)) ≡ n = omega arith in
-    let all : touched (cells_at w 0 n) c ≡ touched (cells_at w 0 (i + 1) ++ cells_at w (0 + (i + 1)) (n - (i + 1))) c =
-    ap (λ m. touched (cells_at w 0 m) c) (sym e) ∙ ap (λ xs. touched xs c) (cells_split w 0 (i + 1) (n - (i + 1))) in
-    let t = touched_append (cells_at w 0 (i + 1)) (cells_at w (0 + (i + 1)) (n - (i + 1))) c in
-    let more = ap (λ xs. touched xs c) (next_cells w i) ∙ touched_append (cells_at w 0 i) (cell_at w i ∷ []) c in
-    omega arith
+pub going_start : (u : List ℕ) (xs rest : List Cell) (c first i : ℕ) → rest ≡ xs → i ≡ 0 → Going u u xs rest c first i 0
+going_start u xs rest c first i e z = record { done = []; all = e; many = sym z; marked = marked_none u c first }
 
-pub marked_more :
-    (u v w cells : List ℕ) (i c first a b : ℕ) (x : Cell) → x ≡ cell_at cells i → MarkedAt u v 0 (cells_at cells 0 i) c first a →
-    MarkedAt v w (5 * a) (x ∷ []) c (first + i) b → 5 * touched (cells_at cells 0 i) c ≤ length u → MarkedAt u w 0 (cells_at cells 0 (i + 1)) c first (a + b)
-marked_more u v w cells i c first a b x is f g h =
-    let l = length_cells cells 0 i in
-    let both : cells_at cells 0 i ++ (x ∷ []) ≡ cells_at cells 0 (i + 1) = ap (λ y. cells_at cells 0 i ++ (y ∷ [])) is ∙ sym (next_cells cells i) in
-    marked_as u w 0 c first (a + b) (cells_at cells 0 i ++ (x ∷ [])) (cells_at cells 0 (i + 1)) both
-    (marked_join u v w 0 (5 * a) (cells_at cells 0 i) (x ∷ []) c first (first + i) a b f g (omega arith) (omega arith) (omega (arith, h)))
+pub going_few : {u v : List ℕ} {xs rest : List Cell} {c first i n : ℕ} → Going u v xs rest c first i n → i + length rest ≡ length xs
+going_few {rest = rest} g = let m = g.many in omega (arith, length-append g.done rest, ap length g.all)
+
+-- one more
+module _ {u v : List ℕ} {xs rest left : List Cell} {c first i n : ℕ} {x : Cell} (g : Going u v xs rest c first i n) (one : rest ≡ x ∷ left) where
+  going_split : (g.done ++ (x ∷ [])) ++ left ≡ xs
+  going_split = append_assoc g.done (x ∷ []) left ∙ ap (λ ys. g.done ++ ys) (sym one) ∙ g.all
+
+  pub going_room : (n + touched (x ∷ []) c ≤ touched xs c) × (i < length xs)
+  going_room =
+      let t = ap (λ ys. touched ys c) (sym going_split) ∙ touched_append (g.done ++ (x ∷ [])) left c in
+      let t2 = touched_append g.done (x ∷ []) c in
+      let l = ap length (sym going_split) ∙ length-append (g.done ++ (x ∷ [])) left in
+      let l2 = length-append g.done (x ∷ []) in
+      let m = g.many in
+      (omega (arith, g.marked.count), omega arith)
+
+  pub going_more : (w : List ℕ) (m : ℕ) → MarkedAt v w (5 * n) (x ∷ []) c (first + i) m → 5 * touched xs c ≤ length u → Going u w xs left c first (i + 1) (n + m)
+  going_more w m f h = record {
+    done = g.done ++ (x ∷ []);
+    all = going_split;
+    many = length-append g.done (x ∷ []) ∙ ap (λ k. k + 1) g.many;
+    marked = marked_join u v w 0 (5 * n) g.done (x ∷ []) c first (first + i) n m g.marked f (omega arith) (ap (λ k. first + k) (sym g.many)) (omega (arith, going_room.0, g.marked.count));
+  }
 
 -- a piece: all its cells, or none if it lacks the mark
 pub piece_is : (cells p : List ℕ) (k from n : ℕ) → from ≡ number p k 0 → n ≡ used p k → cells_at cells from n ≡ piece cells p k

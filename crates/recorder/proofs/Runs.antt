@@ -1,13 +1,11 @@
 -- Cells copied: one after the other, and stretch by stretch of the text.
-use Rattle.std.proofs.Common.{◌≡◌, ℕ, zero, suc, ◌+◌, ◌-◌, ◌*◌, ◌/◌, ◌<◌, ◌≤◌, min, Bool, eqb, List, [], ◌∷◌, ◌++◌, length, get_or, take, drop, set, sym, refl, ap, ◌∙◌, arith, take-add}
-use Rattle.std.specs.List.{between}
-use Rattle.std.proofs.lemmas.List.{length-append, length-drop, length-take-le, take_at, take-append-le, drop_at, drop-drop, nil_from_length}
-use Rattle.std.proofs.lemmas.List.Edits.{sets-eq}
+use Rattle.std.proofs.Common.{◌≡◌, ℕ, zero, suc, ◌+◌, ◌-◌, ◌*◌, ◌/◌, ◌<◌, ◌≤◌, min, Bool, true, false, not, cond, eqb, List, [], ◌∷◌, ◌++◌, length, get_or, take, drop, sym, refl, ap, ◌∙◌, zero-add, arith, take-add}
+use Rattle.std.specs.List.{between, count_by}
+use Rattle.std.proofs.lemmas.List.{length-drop, length-take-le, take-append-drop, take-append-le, drop-drop, nil_from_length}
+use Rattle.std.proofs.lemmas.List.Recursion.{is_count_by}
 use Rattle.model.specs.Paper.{pick, Cell, Change, cells_written, author_of}
-use Rattle.model.specs.Values.{cell_of}
-use Rattle.model.specs.declared.Cell as code
-use Rattle.slots.specs.Cells.{all_cells, cell_at, cells_at}
-use Rattle.slots.proofs.Words.{cell_same, take_cells, drop_cells}
+use Rattle.slots.specs.Cells.{all_cells, cell_at, cells_at, Kept}
+use Rattle.slots.proofs.Words.{cell_same, cells_take, take_cells, drop_cells, kept_drop}
 use Rattle.pieces.specs.Store.{slot, used, number, piece, strung, cells_of, before, Order, Store, Located}
 use Rattle.pieces.proofs.Texts.{length_piece, length_text, drop_text}
 use Rattle.history.specs.Entry.{staying}
@@ -15,11 +13,6 @@ use Rattle.history.proofs.Logging.{length_cells_written}
 use Rattle.recorder.specs.Records.{Stretched, written}
 use Rattle.recorder.proofs.Entries.{run_long}
 use Rattle.recorder.proofs.Splices.{between_written, written_more, written_at}
-
--- four words in a row
-pub cell_set : (u : List ℕ) (x : code.Cell) → 4 ≤ length u → set (set (set (set u 0 x.letter) 1 x.style) 2 x.put_in) 3 x.struck ≡ written u (cells_written (cell_of x ∷ []))
-unfolding cells_written
-cell_set u x h = sets-eq (x.letter ∷ (x.style ∷ (x.put_in ∷ (x.struck ∷ [])))) u 0 h
 
 cells_written_append : (xs ys : List Cell) → cells_written (xs ++ ys) ≡ cells_written xs ++ cells_written ys
 unfolding cells_written
@@ -122,43 +115,45 @@ run_more u v w cells place n done ws f h room less is-v is_w =
     let new : w ≡ written_at v (4 * done) (cells_written (take k (drop (place + done) cells))) = is_w ∙ ap (written_at v (4 * done)) f.words in
     cells_join u v w 0 (4 * done) (take done t) (take k (drop (place + done) cells)) is-v new (omega arith) (omega arith) ∙ ap (λ xs. written_at u 0 (cells_written xs)) both
 
--- how many of the cells with words `ws` stay: so many so far, and those of the cells with words `rest` are to be counted
-abbrev pub Counting : List ℕ → List ℕ → List Change → ℕ → ℕ → Type 0
-Counting ws rest cs a stay = (xs : List Cell) → ws ≡ cells_written xs → (ys : List Cell) × (rest ≡ cells_written ys) × (stay + staying ys cs a ≡ staying xs cs a)
+-- a cell that is written over the first words
+pub cell_written : (u v : List ℕ) (x : Cell) → 4 ≤ length u → cell_at v 0 ≡ x → Kept u v 0 1 → v ≡ written u (cells_written (x ∷ []))
+unfolding cells_at cells_written
+cell_written u v x h is k =
+    let l = k.long in
+    let first : cells_at (take 4 v) 0 1 ≡ x ∷ [] = cells_take v 1 4 (omega arith) ∙ ap (λ y. y ∷ []) is in
+    let front : take 4 v ≡ cells_written (x ∷ []) = sym (words_of 1 (take 4 v) (length-take-le 4 v (omega arith))) ∙ ap cells_written first in
+    sym (take-append-drop 4 v) ∙ ap (λ ws. ws ++ drop 4 v) front ∙ ap (λ ws. cells_written (x ∷ []) ++ ws) (kept_drop u v 0 1 k 4 (omega arith))
 
--- one more cell
-next_cell :
-    (part left : List ℕ) (cs : List Change) (a m : ℕ) (b : Bool) (ys : List Cell) → length part ≡ 4 → part ++ left ≡ cells_written ys →
-    b ≡ eqb (author_of cs (get_or part 2 0)) (suc a) → (zs : List Cell) × (left ≡ cells_written zs) × (staying ys cs a ≡ pick b 0 1 + staying zs cs a)
-unfolding cells_written staying
-next_cell part left cs a m b [] l e is = absurd (omega (arith, ap length e, length-append part left))
-next_cell part left cs a m b (y ∷ ys) l e is =
-    let p : part ≡ y.letter ∷ (y.style ∷ (y.put_in ∷ (y.struck ∷ []))) = sym (take_at part left 4 l) ∙ ap (take 4) e in
-    let q : get_or part 2 0 ≡ y.put_in = ap (λ ws. get_or ws 2 0) p in
-    (ys, sym (drop_at part left 4 l) ∙ ap (drop 4) e, ap (λ t. pick {A = ℕ} t 0 1 + staying ys cs a) (sym (is ∙ ap (λ k. eqb (author_of cs k) (suc a)) q)))
+-- cells are read back from their words
+cells_back : (xs : List Cell) → cells_at (cells_written xs) 0 (length xs) ≡ xs
+unfolding cells_at cell_at cells_written
+cells_back [] = refl
+cells_back (x ∷ xs) = ap (λ ys. x ∷ ys) (cells_behind x.letter x.style x.put_in x.struck (cells_written xs) 0 (length xs) ∙ cells_back xs)
 
-pub counting_more :
-    (ws rest part left : List ℕ) (cs : List Change) (a stay new : ℕ) (b : Bool) → rest ≡ part ++ left → length part ≡ 4 → b ≡ eqb (author_of cs (get_or part 2 0)) (suc a) →
-    new ≡ stay + pick b 0 1 → Counting ws rest cs a stay → Counting ws left cs a new
-counting_more ws rest part left cs a stay new b e l is is_new h xs k =
-    let so_far = h xs k in
-    let next = next_cell part left cs a stay b so_far.0 l (sym e ∙ so_far.1) is in
-    (next.0, next.1, omega (arith, is_new, so_far.2, next.2))
+all_back : (xs : List Cell) → all_cells (cells_written xs) ≡ xs
+all_back xs =
+    let n : length (cells_written xs) / 4 ≡ length xs = omega (arith, length_cells_written xs) in
+    ap (cells_at (cells_written xs) 0) n ∙ cells_back xs
 
-pub counting_all : (ws rest : List ℕ) (cs : List Change) (a stay : ℕ) → length rest < 4 → Counting ws rest cs a stay → (xs : List Cell) → ws ≡ cells_written xs → stay ≡ staying xs cs a
+-- how many cells stay, as the number of those that pass the test
+abbrev pub stays : List Change → ℕ → Cell → Bool
+stays cs a x = not (eqb (author_of cs x.put_in) (suc a))
+
+pub staying_count : (xs : List Cell) (cs : List Change) (a : ℕ) → staying xs cs a ≡ count_by (stays cs a) xs
 unfolding staying
-counting_all ws rest cs a stay l h xs k =
-    let so_far = h xs k in
-    let none : so_far.0 ≡ [] = nil_from_length so_far.0 (omega (arith, l, ap length so_far.1, length_cells_written so_far.0)) in
-    omega (arith, so_far.2, ap (λ ys. staying ys cs a) none)
+staying_count xs cs a =
+    is_count_by (λ ys. staying ys cs a) (stays cs a) refl
+    (λ x ys. elim (eqb (author_of cs x.put_in) (suc a)) as (λ b. pick {A = ℕ} b 0 1 + staying ys cs a ≡ cond (not b) (1 + staying ys cs a) (staying ys cs a)) [ true ↦ zero-add (staying ys cs a) | false ↦ refl ]) xs
 
 -- of the cells that were copied
 pub copied_stay :
     (free new : List ℕ) (to place n : ℕ) (cells : List Cell) (cs : List Change) (a r : ℕ) → place + n ≤ length cells → to + 4 * n ≤ length free →
     new ≡ written_at free to (cells_written (take n (drop place cells))) →
-    ((xs : List Cell) → between to (to + 4 * n) new ≡ cells_written xs → r ≡ staying xs cs a) → r ≡ staying (take n (drop place cells)) cs a
-copied_stay free new to place n cells cs a r h room is counts =
+    r ≡ staying (all_cells (between to (to + 4 * n) new)) cs a → r ≡ staying (take n (drop place cells)) cs a
+copied_stay free new to place n cells cs a r h room is count =
     let xs : List Cell = take n (drop place cells) in
     let l : length xs ≡ n = run_long cells place n h in
     let m : 4 * n ≡ length (cells_written xs) = omega (arith, length_cells_written xs) in
-    counts xs (ap (λ k. between to (to + k) new) m ∙ ap (between to (to + length (cells_written xs))) is ∙ between_written free to (cells_written xs) (omega arith))
+    let there : between to (to + 4 * n) new ≡ cells_written xs =
+    ap (λ k. between to (to + k) new) m ∙ ap (between to (to + length (cells_written xs))) is ∙ between_written free to (cells_written xs) (omega arith) in
+    count ∙ ap (λ ys. staying ys cs a) (ap all_cells there ∙ all_back xs)

@@ -7,7 +7,7 @@ ghost use Rattle.history.specs.Entry.{entry_of, marks_of, staying as staying_of,
 ghost use Rattle.history.specs.Log.{Keeps};
 ghost use Rattle.history.specs.Words.{marks_written};
 ghost use Rattle.model.specs.Calls.{strikes, styles};
-ghost use Rattle.model.specs.Paper.{Cell as PaperCell, Change, cells_written, touched as touches};
+ghost use Rattle.model.specs.Paper.{Change, cells_written, touched as touches};
 ghost use Rattle.model.specs.Values.{cell_of};
 ghost use Rattle.pieces.specs.Store.{piece};
 ghost use Rattle.pieces.specs.Text.{cells_in};
@@ -65,17 +65,6 @@ pub fn put(u: &mut [u32], limit: u32, author: u32, place: u32, style: u32, lette
     seal(u, at, head);
 }
 
-// Writes a cell. By hand, as `slots::write` says what its cell reads as, and this says which words stand where.
-fn write_cell(words: &mut [u32], cell: Cell)
-    requires { 4 ≤ length words.old }
-    ensures { words.new ≡ written words.old (cells_written (cell_of cell ∷ [])) }
-{
-    words[0] = cell.letter;
-    words[1] = cell.style;
-    words[2] = cell.put_in;
-    words[3] = cell.struck;
-}
-
 // The words of the cells of the text from `place` on that stand in one piece, at most `most` of them.
 fn stretch_at<'a>(text: &Text<'a>, place: usize, most: usize) -> &'a [u32]
     requires some { 0 < most }
@@ -107,15 +96,11 @@ fn copy_text(words: &mut [u32], text: &Text, place: usize, n: usize)
 // How many of the cells with these words stay when the author strikes them out.
 fn staying(words: &[u32], author: u32, row: &Row) -> u32
     requires { length words.now < 4294967296 }
-    ensures { (xs : List PaperCell) → words.now ≡ cells_written xs → result ≡ staying_of xs (changes_in row.now) author }
+    ensures { result ≡ staying_of (all_cells words.now) (changes_in row.now) author }
 {
-    let mut stay = 0;
-    for cell in words.chunks_exact(CELL) {
-        if !sweep::is_of(cell[2], author, row) {
-            stay += 1;
-        }
-    }
-    stay
+    (slots::Cells { words })
+        .filter(|cell| !sweep::is_of(cell.put_in, author, row))
+        .count() as u32
 }
 
 // An author is about to strike out the `n` cells from `place` on.
@@ -176,7 +161,7 @@ fn mark_cell(words: &mut [u32], cell: Cell, change: u32, place: usize) -> usize
         return 0;
     }
     words[0] = place as u32;
-    write_cell(&mut words[1..], cell);
+    slots::write(&mut words[1..], 0, cell);
     1
 }
 
@@ -187,9 +172,7 @@ fn mark_cells(words: &mut [u32], cells: &[u32], change: u32, first: usize) -> us
     ensures { Marked words.old words.new (all_cells cells.now) change first result }
 {
     let mut found = 0;
-    // An index, as the place of each cell is counted on from the first.
-    for i in 0..cells.len() / CELL {
-        let cell = slots::read(cells, i);
+    for (i, cell) in (slots::Cells { words: cells }).enumerate() {
         found += mark_cell(&mut words[MARK * found..], cell, change, first + i);
     }
     found

@@ -1,10 +1,10 @@
 -- How many cells have the mark of a change.
-use Rattle.std.proofs.Common.{◌≡◌, ℕ, suc, ◌+◌, ◌*◌, Bool, true, false, ◌||◌, eqb, List, [], ◌∷◌, ◌++◌, sym, refl, ap, ◌∙◌, add-zero, add_assoc, zero-add, arith}
-use Rattle.std.specs.List.{AllByRecursion}
+use Rattle.std.proofs.Common.{◌≡◌, ℕ, suc, ◌+◌, ◌*◌, Bool, true, false, ◌||◌, eqb, cond, List, [], ◌∷◌, ◌++◌, sym, refl, ap, ◌∙◌, add_assoc, zero-add, arith}
+use Rattle.std.specs.List.{AllByRecursion, count_by}
+use Rattle.std.proofs.lemmas.List.Recursion.{is_count_by}
 use Rattle.std.proofs.lemmas.Bool.{ne_eqb}
 use Rattle.model.specs.Paper.{pick, Cell, touched}
-use Rattle.slots.specs.Cells.{all_cells, cell_at, cells_at}
-use Rattle.slots.proofs.Words.{cells_more}
+use Rattle.slots.specs.Cells.{all_cells, cells_at}
 use Rattle.pieces.specs.Marks.{Lacks}
 use Rattle.pieces.specs.Store.{slot, used, number, piece, strung, pieces_from}
 use Rattle.pieces.proofs.Strung.{strung_more}
@@ -18,18 +18,11 @@ unfolding touched
 touched_append [] ys c = sym (zero-add (touched ys c))
 touched_append (x ∷ xs) ys c = ap (λ n. pick (mark_in x c) 1 0 + n) (touched_append xs ys c) ∙ sym (add_assoc (pick (mark_in x c) 1 0) (touched xs c) (touched ys c))
 
--- one cell more
-pub touched_more : (w : List ℕ) (i c : ℕ) → touched (cells_at w 0 (i + 1)) c ≡ touched (cells_at w 0 i) c + pick (mark_in (cell_at w i) c) 1 0
+-- as the number of cells that pass the test
+pub touched_count : (xs : List Cell) (c : ℕ) → touched xs c ≡ count_by (λ x. mark_in x c) xs
 unfolding touched
-touched_more w i c =
-    ap (λ xs. touched xs c) (cells_more w 0 i) ∙ touched_append (cells_at w 0 i) (cell_at w (0 + i) ∷ []) c
-    ∙ ap (λ n. touched (cells_at w 0 i) c + n) (add-zero (pick (mark_in (cell_at w (0 + i)) c) 1 0) ∙ ap (λ k. pick (mark_in (cell_at w k) c) 1 0) (zero-add i))
-
-pub touched_with : (w : List ℕ) (i c n : ℕ) → mark_in (cell_at w i) c ≡ true → n ≡ touched (cells_at w 0 i) c → n + 1 ≡ touched (cells_at w 0 (i + 1)) c
-touched_with w i c n e h = let m = touched_more w i c in let o = ap (λ t. pick {A = ℕ} t 1 0) e in omega arith
-
-pub touched_without : (w : List ℕ) (i c n : ℕ) → mark_in (cell_at w i) c ≡ false → n ≡ touched (cells_at w 0 i) c → n ≡ touched (cells_at w 0 (i + 1)) c
-touched_without w i c n e h = let m = touched_more w i c in let o = ap (λ t. pick {A = ℕ} t 1 0) e in omega arith
+touched_count xs c =
+    is_count_by (λ ys. touched ys c) (λ x. mark_in x c) refl (λ x ys. elim (mark_in x c) as (λ b. pick {A = ℕ} b 1 0 + touched ys c ≡ cond b (1 + touched ys c) (touched ys c)) [ true ↦ refl | false ↦ zero-add (touched ys c) ]) xs
 
 -- a piece without the mark
 pub touched_lacks : (c : ℕ) (xs : List Cell) → AllByRecursion (Lacks (suc c)) xs → touched xs c ≡ 0

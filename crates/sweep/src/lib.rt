@@ -280,14 +280,9 @@ fn touched_cells(cells: &[u32], change: u32) -> usize
     ensures count { result ≡ touches (all_cells cells.now) change }
     ensures few { result ≤ length cells.now / 4 }
 {
-    let mut count = 0;
-    // An index, as cells are read from lent words.
-    for i in 0..cells.len() / 4 {
-        if is_touched(slots::read(cells, i), change) {
-            count += 1;
-        }
-    }
-    count
+    (slots::Cells { words: cells })
+        .filter(|cell| is_touched(*cell, change))
+        .count()
 }
 
 // How many cells of piece `k` have the mark of the change.

@@ -1,9 +1,10 @@
 -- The cell has the mark, or has it not.
-use Rattle.std.proofs.Common.{◌≡◌, true, ◌-◌, length, sym, refl, set, ◌∙◌, [], ◌∷◌, arith}
+use Rattle.std.proofs.Common.{◌≡◌, true, ◌-◌, length, take, drop, sym, refl, set, ◌∙◌, [], ◌∷◌, arith}
 use Rattle.std.proofs.lemmas.List.{length-set, length-take, length-drop}
 use Rattle.model.specs.Paper.{cells_written}
 use Rattle.model.specs.Values.{cell_of}
 use Rattle.recorder.proofs.Splices.{written_from}
+use Rattle.recorder.proofs.Runs.{cell_written}
 use Rattle.recorder.proofs.Marking.{mark_in, touched_one, marked_front, marked_not, marked_one}
 use Rattle.recorder.proofs.mark_cell.Goals as goal
 
@@ -17,20 +18,20 @@ bounds-words-0 c =
     let t = touched_one (cell_of c.args.cell) c.args.change (sym c.is_touched.ensures ∙ c.if-not-is_touched.false) in
     omega (arith, c.requires.target)
 
-pub slice_bounds-write_cell-count : goal.slice_bounds-write_cell-count
-slice_bounds-write_cell-count c =
+pub slice_bounds-write-count : goal.slice_bounds-write-count
+slice_bounds-write-count c =
     let t = touched_one (cell_of c.args.cell) c.args.change (sym c.is_touched.ensures ∙ c.if-not-is_touched.false) in
     let room = c.requires.target in
     simp length-set (omega arith)
 
-pub slice_bounds-write_cell-start : goal.slice_bounds-write_cell-start
-slice_bounds-write_cell-start c =
+pub slice_bounds-write-start : goal.slice_bounds-write-start
+slice_bounds-write-start c =
     let t = touched_one (cell_of c.args.cell) c.args.change (sym c.is_touched.ensures ∙ c.if-not-is_touched.false) in
     let room = c.requires.target in
     simp length-set (omega arith)
 
-pub write_cell-requires : goal.write_cell-requires
-write_cell-requires c =
+pub write-requires : goal.write-requires
+write-requires c =
     let t = touched_one (cell_of c.args.cell) c.args.change (sym c.is_touched.ensures ∙ c.if-not-is_touched.false) in
     let room = c.requires.target in
     simp (length-take, length-drop, length-set) (omega arith)
@@ -42,4 +43,5 @@ returns c =
     let words = set c.args.words.now 0 c.args.place in
     marked_front c.args.words.now _ (cell_of c.args.cell ∷ []) c.args.change c.args.place 1
     (marked_one c.args.words.now _ (cell_of c.args.cell) c.args.change c.args.place has (omega (arith, c.requires.target))
-    (written_from words (cells_written (cell_of c.args.cell ∷ [])) c.write_cell.new.words 1 (length words - 1) refl c.write_cell.ensures))
+    (written_from words (cells_written (cell_of c.args.cell ∷ [])) c.write.new.c 1 (length words - 1) refl
+    (cell_written (take (length words - 1) (drop 1 words)) c.write.new.c (cell_of c.args.cell) (simp (length-take, length-drop, length-set) (omega arith)) c.write.ensures.written c.write.ensures.kept)))

@@ -1,46 +1,33 @@
--- One cell more.
-use Rattle.std.proofs.Common.{rules, ℕ, ◌+◌, sym, ap, ◌∙◌, length, arith}
-use Rattle.std.proofs.lemmas.List.{length-append}
-use Rattle.std.specs.Slice.Iter.{chunks_exact_rest}
+-- The cells that pass the test are counted.
+use Rattle.std.proofs.Common.{rules, ◌/◌, length, sym, ap, ◌∙◌, inl, arith}
+use Rattle.std.proofs.lemmas.Iterator.Consumers.{count_from_yields_List, YieldsList-from_filter, YieldsList-from_first}
+use Rattle.std.proofs.lemmas.List.Sums.{length-filter}
 use Rattle.changes.specs.Rows.{changes_in}
-use Rattle.model.specs.Paper.{pick}
-use Rattle.recorder.proofs.Runs.{counting_more, counting_all}
+use Rattle.model.specs.Values.{cell_of}
+use Rattle.slots.specs.Cells.{all_cells}
+use Rattle.slots.proofs.Words.{length_cells}
+use Rattle.recorder.proofs.Runs.{stays, staying_count}
 use Rattle.recorder.proofs.staying.Goals as goal
 
-pub loop-cell-init : goal.loop-cell-init
-loop-cell-init c = (search rules, tt, search rules, search rules, λ xs e. (xs, search rules, search rules))
+pub count-requires-clause-fits : goal.count-requires-clause-fits
+count-requires-clause-fits c =
+    let e = ap (λ s. length (all_cells s.words.now)) c.filter.ensures.source in
+    let l = length_cells c.args.words.now 0 (length c.args.words.now / 4) in
+    let r = c.requires in
+    inl (omega arith)
 
-pub loop-cell-preserved-then-not-is_of : goal.loop-cell-preserved-then-not-is_of
-loop-cell-preserved-then-not-is_of c =
-    let steps = c.in-Some.ensures.steps in
-    let inv = c.loop-cell.invariant in
-    let long = ap length steps.1.0 in
-    let parts = length-append c.in-Some.cell.now (chunks_exact_rest c.next.new.self) in
-    let four = steps.1.1 ∙ inv.2 in (
-      search rules,
-      tt,
-      steps.0 ∙ inv.2,
-      omega arith,
-      counting_more c.args.words.now _ c.in-Some.cell.now (chunks_exact_rest c.next.new.self) (changes_in c.args.row.now) c.args.author c.loop-cell.stay _ c.is_of.result
-          steps.1.0 four c.is_of.ensures (ap (λ b. c.loop-cell.stay + pick {A = ℕ} b 0 1) (sym c.if-not-is_of.true)) inv.4,
-    )
-
-pub loop-cell-preserved : goal.loop-cell-preserved
-loop-cell-preserved c =
-    let steps = c.in-Some.ensures.steps in
-    let inv = c.loop-cell.invariant in
-    let long = ap length steps.1.0 in
-    let parts = length-append c.in-Some.cell.now (chunks_exact_rest c.next.new.self) in
-    let four = steps.1.1 ∙ inv.2 in (
-      search rules,
-      tt,
-      steps.0 ∙ inv.2,
-      omega arith,
-      counting_more c.args.words.now _ c.in-Some.cell.now (chunks_exact_rest c.next.new.self) (changes_in c.args.row.now) c.args.author c.loop-cell.stay _ c.is_of.result
-          steps.1.0 four c.is_of.ensures (omega (arith, ap (λ b. pick {A = ℕ} b 0 1) c.if-not-is_of.false)) inv.4,
-    )
+pub overflow_cast-result : goal.overflow_cast-result
+overflow_cast-result c =
+    let e = ap (λ s. length (all_cells s.words.now)) c.filter.ensures.source in
+    let l = length_cells c.args.words.now 0 (length c.args.words.now / 4) in
+    let b = c.count.ensures.bound in
+    let r = c.requires in
+    omega arith
 
 pub returns : goal.returns
 returns c =
-    let inv = c.loop-cell.invariant in
-    counting_all c.args.words.now _ (changes_in c.args.row.now) c.args.author c.loop-cell.stay (omega (arith, c.in-None.ensures.steps.1.0, inv.2)) inv.4
+    let test = stays (changes_in c.args.row.now) c.args.author in
+    let all = all_cells c.args.words.now in
+    count_from_yields_List c.filter.result _ c.count.ensures.ran
+    (YieldsList-from_filter _ test (YieldsList-from_first cell_of (λ s. all_cells s.words.now) all (ap (λ s. all_cells s.words.now) c.filter.ensures.source)) c.filter.ensures.closure (λ x b q k. search rules))
+    ∙ length-filter test all ∙ sym (staying_count all (changes_in c.args.row.now) c.args.author)

@@ -1,26 +1,30 @@
-use Rattle.std.proofs.Common.{◌≡◌, ◌/◌, length, sym, refl, ap, ◌∙◌, arith}
-use Rattle.model.specs.Paper.{touched}
-use Rattle.slots.specs.Cells.{cells_at}
-use Rattle.sweep.proofs.Marks.{mark_in, touched_with, touched_without}
+-- The cells that pass the test are counted.
+use Rattle.std.proofs.Common.{rules, ◌/◌, length, sym, ap, ◌∙◌, inl, arith}
+use Rattle.std.proofs.lemmas.Iterator.Consumers.{count_from_yields_List, YieldsList-from_filter, YieldsList-from_first}
+use Rattle.std.proofs.lemmas.List.Sums.{length-filter}
+use Rattle.model.specs.Values.{cell_of}
+use Rattle.slots.specs.Cells.{all_cells}
+use Rattle.slots.proofs.Words.{length_cells}
+use Rattle.sweep.proofs.Marks.{mark_in, touched_count}
 use Rattle.sweep.proofs.touched_cells.Goals as goal
-use Rattle.sweep.proofs.touched_cells.Goals.{then-is_touched, else-is_touched}
 
-pub loop-i-init : goal.loop-i-init
-unfolding cells_at touched
-loop-i-init c = record { count = refl; few = omega arith }
-
-pub loop-i-preserved : goal.loop-i-preserved
-loop-i-preserved c =
-    let inv = c.loop-i.invariant in
-    let test = sym (ap (λ x. mark_in x c.args.change) c.read.ensures) ∙ sym c.is_touched.ensures in
-    elim c.if-is_touched.branch [
-      | then-is_touched w ↦
-          record { count = w.count-is ∙ touched_with c.args.cells.now c.loop-i.i c.args.change c.loop-i.count (test ∙ w.if-is_touched.true) inv.count; few = omega (arith, w.count-is) }
-      | else-is_touched w ↦
-          record { count = w.count-is ∙ touched_without c.args.cells.now c.loop-i.i c.args.change c.loop-i.count (test ∙ w.if-is_touched.false) inv.count; few = omega (arith, w.count-is) }
-    ]
+pub count-requires-clause-fits : goal.count-requires-clause-fits
+count-requires-clause-fits c =
+    let e = ap (λ s. length (all_cells s.words.now)) c.filter.ensures.source in
+    let l = length_cells c.args.cells.now 0 (length c.args.cells.now / 4) in
+    let t = c.type_inv.cells in
+    inl (omega arith)
 
 pub returns-clause-count : goal.returns-clause-count
 returns-clause-count c =
-    let e : c.loop-i.i ≡ length c.args.cells.now / 4 = omega arith in
-    rw (← e) c.loop-i.invariant.count
+    let change = c.args.change in
+    count_from_yields_List c.filter.result _ c.count.ensures.ran
+    (YieldsList-from_filter _ (λ x. mark_in x change) (YieldsList-from_first cell_of (λ s. all_cells s.words.now) (all_cells c.args.cells.now) (ap (λ s. all_cells s.words.now) c.filter.ensures.source)) c.filter.ensures.closure (λ x b q k. search rules))
+    ∙ length-filter (λ x. mark_in x change) (all_cells c.args.cells.now) ∙ sym (touched_count (all_cells c.args.cells.now) change)
+
+pub returns-clause-few : goal.returns-clause-few
+returns-clause-few c =
+    let e = ap (λ s. length (all_cells s.words.now)) c.filter.ensures.source in
+    let l = length_cells c.args.cells.now 0 (length c.args.cells.now / 4) in
+    let b = c.count.ensures.bound in
+    omega arith
