@@ -1,6 +1,5 @@
 -- An answer's bytes as a line: the parts at a place in the bytes.
-use Rattle.std.proofs.Common.{◌≡◌, ℕ, suc, ◌+◌, ◌-◌, ◌<◌, ◌≤◌, List, [], ◌∷◌, ◌++◌, length, drop, decimal, sym, ap, ◌∙◌, refl, arith}
-use Rattle.std.proofs.lemmas.List.{append_assoc}
+use Rattle.std.proofs.Common.{◌≡◌, ℕ, suc, ◌+◌, ◌-◌, ◌<◌, ◌≤◌, List, ◌++◌, length, drop, decimal, sym, ap, ◌∙◌, refl, arith}
 use Rattle.std.proofs.lemmas.Bool.{lt-ltb, le-ltb}
 use Rattle.text.specs.declared.fault.Stop.{Stop}
 use Rattle.text.specs.declared.fault.Stop.TheVariants.{At, NoMemory}
@@ -30,10 +29,6 @@ module _ (line xs : List ℕ) where
   cell_whole l p s h lt e ep es =
       let lt' : word_at xs 0 < 256 = omega arith in
       rw (le-ltb (length xs) 16 h, lt-ltb (word_at xs 0) 256 lt', sym e, sym ep, sym es) refl
-
--- a cell's three parts, as the code appends them
-pub cell_parts : (line mark escape : List ℕ) (l : ℕ) → ((line ++ mark) ++ escape) ++ (l ∷ []) ≡ line ++ (mark ++ (escape ++ (l ∷ [])))
-cell_parts line mark escape l = append_assoc (line ++ mark) escape (l ∷ []) ∙ append_assoc line mark (escape ++ (l ∷ []))
 
 -- a part whose first four bytes are its count
 module _ (f : List ℕ → List ℕ → Step (List ℕ)) (line xs : List ℕ) where
