@@ -124,7 +124,7 @@ fn begin(out: &mut [u8], at: usize, form: Form, n: u32) -> usize
     number(out, at + 1, n)
 }
 
-// Begins an answer of rows: how many there are.
+// Begins an answer of rows: how many there are. Rows and numbers have a function each, as a form in a parameter would let callers begin any other.
 pub fn begin_rows(out: &mut [u8], at: usize, count: u32) -> usize
     requires { at + 5 ≤ length out.old }
     ensures bytes { out.new ≡ over out.old at (3 ∷ word_bytes count) }

@@ -51,7 +51,7 @@ impl State {
     }
 }
 
-// How many entries can be undone.
+// How many entries can be undone. This and the next are two functions, as a side in a parameter would say less than the two names.
 pub fn behind(u: &[u32]) -> usize
     requires { 16 ≤ length u.now }
     ensures word { result ≡ slice_index u.now 3 }

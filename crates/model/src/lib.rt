@@ -12,7 +12,8 @@ pub use verdict::Verdict;
 pub use way::Way;
 
 // A letter with a style. `put_in` and `struck` name the open change that put it in or struck it out: 0 for none, else one more
-// than the change's number. These are the four numbers that stand for a cell in a paper's file.
+// than the change's number. These are the four numbers that stand for a cell in a paper's file and in lent memory,
+// so that a mark is a number and no option.
 #[derive(Clone, Copy, Debug, PartialEq, Eq, Hash)]
 pub struct Cell {
     pub letter: u32,
@@ -21,7 +22,7 @@ pub struct Cell {
     pub struck: u32,
 }
 
-// A change has an author, and what became of it: 0 open, 1 accepted, 2 rejected.
+// A change has an author, and what became of it: 0 open, 1 accepted, 2 rejected. It is a number, as lent words and files have one, and any may stand there.
 #[derive(Clone, Copy, Debug, PartialEq, Eq, Hash)]
 pub struct Change {
     pub author: u32,

@@ -98,7 +98,7 @@ impl<'a> Text<'a> {
     }
 }
 
-/// A text that is changed.
+/// A text that is changed. It has no `Debug`, which would print all of the memory.
 #[derive(Drop)]
 pub struct TextMut<'a> {
     pub cells: &'a mut [u32],

@@ -15,7 +15,7 @@ use std::fmt;
 // The most numbers that the file of a paper has: how many changes, 128 changes and 2,048 cells.
 const NUMBERS: usize = 8449;
 
-// A cell as in `model`, whose letter is a byte.
+// A cell as in `model`, whose letter is a byte: a type of its own, so that whoever prints a letter need not be told that it fits one.
 #[derive(Clone, Copy, Debug, PartialEq, Eq, Hash)]
 pub struct Cell {
     pub letter: u8,

@@ -15,6 +15,7 @@ use text::push_cell;
 // The most letters of a row.
 const WIDTH: usize = 64;
 
+// Bytes, where the letters of lent memory are words.
 const END: u8 = 10;
 
 const SPACE: u8 = 32;

@@ -39,7 +39,7 @@ fn run(text: &mut TextMut, place: usize, standing: usize, old: &[u32])
     put_back(text, place, old);
 }
 
-// Whether the cell went when the change was decided.
+// Whether the cell went when the change was decided. One of its two marks counts, where a sweep's test of a cell asks for either.
 fn went(cell: Cell, verdict: Verdict, change: u32) -> bool
     ensures { result ≡ goes verdict change (cell_of cell) }
 {

@@ -33,7 +33,7 @@ impl<T: Drop> From<AllocFailed<T>> for Fault {
 }
 
 // Why a part is not read or not written.
-#[derive(Clone, Copy)]
+#[derive(Clone, Copy, Debug)]
 pub(crate) enum Stop<'a> {
     // It does not fit, from its first byte here on.
     At(&'a [u8]),

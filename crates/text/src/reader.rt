@@ -9,7 +9,7 @@ use crate::fault::{Fault, Stop};
 use std::alloc::{AllocError, Global};
 
 // What a byte between quotes is: one of four, so neither an option nor a result says it.
-#[derive(Clone, Copy)]
+#[derive(Clone, Copy, Debug, PartialEq, Eq, Hash)]
 enum Mark {
     Letter(u8),
     Backslash,
@@ -18,7 +18,7 @@ enum Mark {
 }
 
 // The shape of a call's line: its word, how many numbers, and whether letters come last.
-#[derive(Clone, Copy)]
+#[derive(Clone, Copy, Debug)]
 struct Shape {
     word: &'static [u8],
     count: usize,

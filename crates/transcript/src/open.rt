@@ -16,6 +16,7 @@ const PIECES_WORDS: usize = 10512;
 
 const UNDO_WORDS: usize = 1;
 
+// A desk and the memory that it lends. It has no `Debug`, which would print all of that.
 #[derive(Drop)]
 pub(crate) struct OpenDesk {
     cells: Vec<u32>,
