@@ -65,6 +65,37 @@ pub fn number_of(p: &[u32], s: usize, k: usize, j: usize) -> usize
     CELLS * p[k] as usize + j
 }
 
+// How many cells there are. This and the next two ask for the tables alone: `Text` has them for a whole text.
+pub fn count(p: &[u32], s: usize) -> usize
+    requires { Table p.now s }
+    ensures { result ≡ before p.now s }
+{
+    p[TREE + 1] as usize
+}
+
+// Where cell number `place` of the text stands.
+pub fn locate(p: &[u32], s: usize, place: usize) -> Spot
+    requires table { Table p.now s }
+    requires place { place < before p.now s }
+    ensures { Located p.now s place result.piece result.offset }
+{
+    tree::find(&p[TREE..], place)
+}
+
+// Whether piece `k` may have a cell with the mark. If not, it has none.
+pub fn may_have(p: &[u32], s: usize, k: usize, mark: u32) -> bool
+    requires order { Order p.now s }
+    requires here { k < s }
+    requires some { 0 < mark }
+    ensures is { result ≡ has p.now (slot p.now k) mark }
+    ensures lacks { result ≡ false → (c : List ℕ) → Store c p.now s → AllByRecursion (Lacks mark) (piece c p.now k) }
+{
+    let i = p[k] as usize;
+    let low = (p[LOW + i] >> (mark % 32)) % 2;
+    let high = (p[HIGH + i] >> (mark / 32 % 32)) % 2;
+    (low == 1) & (high == 1)
+}
+
 // The set of marks of piece `k` gets the mark.
 pub fn add_mark(p: &mut [u32], s: usize, k: usize, mark: u32)
     requires order { Order p.old s }

@@ -55,7 +55,7 @@ impl<'a> Text<'a> {
     pub fn count(&self) -> usize
         ensures { result ≡ before self.now.tables.now self.now.slots }
     {
-        self.tables[TREE + 1] as usize
+        crate::count(self.tables, self.slots)
     }
 
     /// Where cell number `place` stands.
@@ -63,7 +63,7 @@ impl<'a> Text<'a> {
         requires { place < before self.now.tables.now self.now.slots }
         ensures { Located self.now.tables.now self.now.slots place result.piece result.offset }
     {
-        tree::find(&self.tables[TREE..], place)
+        crate::locate(self.tables, self.slots, place)
     }
 
     /// Whether piece `k` may have a cell with the mark. If not, it has none.
@@ -73,10 +73,7 @@ impl<'a> Text<'a> {
         ensures is { result ≡ has self.now.tables.now (slot self.now.tables.now k) mark }
         ensures lacks { result ≡ false → AllByRecursion (Lacks mark) (piece self.now.cells.now self.now.tables.now k) }
     {
-        let i = self.tables[k] as usize;
-        let low = (self.tables[LOW + i] >> (mark % 32)) % 2;
-        let high = (self.tables[HIGH + i] >> (mark / 32 % 32)) % 2;
-        (low == 1) & (high == 1)
+        crate::may_have(self.tables, self.slots, k, mark)
     }
 
     // Where a cell that is put in at `place` goes: at the front, or just behind the cell before it.
