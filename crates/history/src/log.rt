@@ -4,7 +4,7 @@ ghost use Rattle.std.specs.Prelude.{◌≡◌, ℕ, ◌+◌, ◌-◌, ◌*◌, �
 ghost use Rattle.history.specs.Entry.{Entry};
 ghost use Rattle.history.specs.Log.{Log, Keeps, SomeLog, StepsBack, StepsAhead, Inside, Drops, ForgetsOldest, Forgets, Stays, Room, MakesRoom, CanPush, Pushes, WrittenKeeps, WrittenKeepsRoom, RoomPushes, end_of};
 
-// The head. Start, cursor and end are counted from word 16 on.
+// The head. Start, cursor and end are counted from word 16 on: a bare number here and below, as the contracts and the specs name it so.
 #[derive(Clone, Copy, Debug, PartialEq, Eq, Hash)]
 struct State {
     start: u32,
