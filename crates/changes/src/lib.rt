@@ -9,6 +9,7 @@ ghost use Rattle.model.specs.Values.{change_of};
 use model::Change;
 
 /// The first `len` changes whose words are lent.
+/// No `PartialEq` and no `Hash`: the words behind the changes are no part of the row.
 #[derive(Clone, Copy, Debug)]
 pub struct Row<'a> {
     pub words: &'a [u32],
@@ -51,7 +52,7 @@ pub fn add(words: &mut [u32], n: usize, author: u32)
 }
 
 // What became of change number k, of n; no other word moves.
-// A number, as a `Change` has it.
+// A number, as a `Change` has it. `n` is for the contract alone: it says how many changes the words have.
 pub fn decide(words: &mut [u32], n: usize, k: usize, became: u32)
     requires { (k < n) × (2 * n ≤ length words.old) }
     ensures row { changes_of words.new n ≡ with_became (changes_of words.old n) k became }

@@ -49,7 +49,7 @@ impl From<Kind> for u32 {
     }
 }
 
-/// Any other number is that of a change of style.
+/// Any other number is that of a change of style: a log has no others, and to read one cannot fail.
 impl From<u32> for Kind {
     ghost from_gives = { λ n kind. kind ≡ kind_at n };
 
@@ -76,7 +76,7 @@ impl From<Verdict> for Kind {
     }
 }
 
-// The head of the entry that stands at `at`: a place beside the words here and below, as the log tells where an entry stands.
+// The head of the entry that stands at `at`: a place beside the words and an index, here and below, as the log tells where an entry stands in lent memory.
 pub fn read_head(u: &[u32], at: usize) -> Head
     requires { at + 7 ≤ length u.now }
     ensures words { result ≡ head_at u.now at }

@@ -4,7 +4,7 @@ ghost use Rattle.std.specs.Prelude.{◌≡◌, ℕ, ◌+◌, ◌-◌, ◌*◌, �
 ghost use Rattle.history.specs.Entry.{Entry};
 ghost use Rattle.history.specs.Log.{Log, Keeps, SomeLog, StepsBack, StepsAhead, Inside, Drops, ForgetsOldest, Forgets, Stays, Room, MakesRoom, CanPush, Pushes, WrittenKeeps, WrittenKeepsRoom, RoomPushes, end_of};
 
-// The head. Start, cursor and end are counted from word 16 on.
+// The head. Start, cursor and end are counted from word 16 on: a bare number here and below, as the contracts and the specs name it so.
 #[derive(Clone, Copy, Debug, PartialEq, Eq, Hash)]
 struct State {
     start: u32,
@@ -21,6 +21,7 @@ struct State {
 impl State {
     ghost use Rattle.history.specs.Log.{Headed};
 
+    // By index, here and below, as the head stands in fixed lent memory.
     fn read(u: &[u32]) -> State
         requires { 16 ≤ length u.now }
         ensures { Headed u.now result }
@@ -70,6 +71,7 @@ pub fn ahead(u: &[u32]) -> usize
 }
 
 // Steps back over the latest entry behind the cursor, and tells where it stands.
+// (As `behind` and `ahead`: two functions, as their contracts name different lists.)
 pub fn step_back(u: &mut [u32]) -> usize
     requires log { SomeLog u.old }
     requires more { 0 < slice_index u.old 3 }

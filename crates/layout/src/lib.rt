@@ -17,7 +17,7 @@ use pieces::Text;
 pub use seen::Seen;
 use sheet::Sheet;
 
-// In which ways a cell is seen, as bits: bit 0 is set, bit 1 unless the cell is struck out, and bit 2 unless it was put in.
+// In which ways a cell is seen, as bits of a number, for counts of all ways at once, which nothing keeps yet: bit 0 is set, bit 1 unless the cell is struck out, and bit 2 unless it was put in.
 pub fn ways(x: Cell) -> u32
     ensures bits { (k : ℕ) → k < 3 → result / 2 ^ k % 2 ≡ pick (seen k (cell_of x)) 1 0 }
     ensures small { result < 8 }
@@ -37,7 +37,7 @@ pub fn seen_bits(text: &Text, k: usize, from: usize, way: Way) -> u32
     // By its number, as a text gives a cell.
     for i in (0..n).rev() {
         let x = text.cell(k, from + i);
-        bits = 2 * bits + way.sees(x) as u32;
+        bits = 2 * bits + u32::from(way.sees(x));
     }
     bits
 }
@@ -51,6 +51,7 @@ pub fn count(text: &Text, way: Way) -> usize
 }
 
 // Writes `n` rows from row number `first` on as an answer, and says how many bytes it has; or nothing, where these rows are not there.
+// What a `Sheet` asks of a width is asked here, so that a caller needs none. 262405 bytes are room for the longest answer, here and below.
 pub fn show(text: &Text, way: Way, width: u32, first: u32, n: u32, out: &mut [u8]) -> Option<usize>
     requires least { 1 ≤ width }
     requires most { width ≤ 256 }

@@ -6,6 +6,7 @@ use model::{Cell, Way};
 use pieces::{Spot, Text};
 
 /// What is seen of a text from a spot on. Each cell comes with the spot at which it stands.
+/// No `PartialEq` and no `Hash`, as `Text` has none.
 #[derive(Clone, Copy, Debug)]
 pub struct Seen<'a> {
     text: Text<'a>,
@@ -25,6 +26,7 @@ impl<'a> Seen<'a> {
     pub fn all(text: &Text<'a>, way: Way) -> Seen<'a>
         ensures { still result ≡ view (way_number way) (cells_in text.now) }
     {
+        // Spots by their two fields, here and below: which cell is meant is seen at once.
         let start = Spot {
             piece: 0,
             offset: 0,

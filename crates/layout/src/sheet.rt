@@ -5,7 +5,7 @@ use crate::Seen;
 use model::Way;
 use pieces::{Spot, Text};
 
-// The letter that ends a paragraph.
+// The letter that ends a paragraph, as a word: `printing` has bytes.
 const END: u32 = 10;
 
 const SPACE: u32 = 32;
@@ -18,6 +18,7 @@ pub struct Row {
 }
 
 /// A text as it is looked at in one way, in rows of a width.
+/// No `PartialEq` and no `Hash`, as `Text` has none.
 #[derive(Clone, Copy, Debug)]
 pub struct Sheet<'a> {
     pub text: Text<'a>,
@@ -45,6 +46,7 @@ impl<'a> Sheet<'a> {
         requires room { 262405 ≤ length out.old }
         ensures { Shown (rows self.now.width (view (way_number self.now.way) (cells_in self.now.text))) first n out.old out.new result }
     {
+        // Spots by their two fields, here and below: which cell is meant is seen at once.
         let start = Spot {
             piece: 0,
             offset: 0,

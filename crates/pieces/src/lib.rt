@@ -3,19 +3,16 @@
 // a slot). Every slot is a piece of the text, an unused one has no cells. Words of `c` past the slots and words of `p` past 10240 are never touched.
 #![tactic(auto)]
 
-ghost use Rattle.std.specs.Prelude.{◌≡◌, ℕ, ◌+◌, ◌-◌, ◌*◌, ◌/◌, ◌<◌, ◌≤◌, false, ◌≢◌, List, [], ◌++◌, length, take, drop, replicate, slice_index_or, slice_set};
-ghost use Rattle.model.specs.Values.{cell_of};
+ghost use Rattle.std.specs.Prelude.{◌≡◌, ℕ, ◌+◌, ◌-◌, ◌*◌, ◌/◌, ◌<◌, ◌≤◌, false, ◌≢◌, List, [], ◌++◌, length, take, drop};
 ghost use Rattle.std.specs.List.{range_with_len, AllByRecursion};
-ghost use Rattle.pieces.specs.Store.{used as uses, slot, number, piece, cells_of, before, no_cell, cleared_cells, cleared_words, Edited, Gap, Located, Order, Table, Store};
+ghost use Rattle.pieces.specs.Store.{used as uses, slot, number, piece, cells_of, before, cleared_cells, cleared_words, Located, Order, Table, Store};
 ghost use Rattle.pieces.specs.Marks.{has, noted, noted_cells, with_set, Beside, Grown, Has, Joined, Lacks, Marks};
 ghost use Rattle.pieces.specs.Edits.{replaced, Changed, Cut, Filled, Packed, Recounted, Resized, Rotated, SameText, Shifted};
-ghost use Rattle.model.specs.Paper.{new_cells};
-ghost use Rattle.slots.specs.Cells.{all_cells, cells_at};
+ghost use Rattle.slots.specs.Cells.{all_cells};
 ghost use Rattle.tree.specs.Tree.{Sums};
 
 mod text;
 
-use model::Cell;
 pub use text::{Text, TextMut};
 pub use tree::Spot;
 
@@ -46,7 +43,7 @@ pub fn slots_for(max_cells: usize) -> usize
     max_cells / 576 + 4
 }
 
-// How many cells piece `k` has.
+// How many cells piece `k` has. (Of the tables alone, like the next: steps of an edit have no text.)
 pub fn used(p: &[u32], k: usize) -> usize
     requires leaf { k < 2048 }
     requires words { 6144 ≤ length p.now }
@@ -56,6 +53,7 @@ pub fn used(p: &[u32], k: usize) -> usize
 }
 
 // The number of cell `j` of piece `k`.
+// `s`, here and below, is for the contract alone: it says of how many slots the order is.
 pub fn number_of(p: &[u32], s: usize, k: usize, j: usize) -> usize
     requires order { Order p.now s }
     requires here { k < s }
@@ -65,7 +63,7 @@ pub fn number_of(p: &[u32], s: usize, k: usize, j: usize) -> usize
     CELLS * p[k] as usize + j
 }
 
-// How many cells there are. This and the next two ask for the tables alone: `Text` has them for a whole text.
+// How many cells there are. This and the next three ask for the tables alone: `Text` has the first three for a whole text.
 pub fn count(p: &[u32], s: usize) -> usize
     requires { Table p.now s }
     ensures { result ≡ before p.now s }
@@ -110,7 +108,7 @@ pub fn add_mark(p: &mut [u32], s: usize, k: usize, mark: u32)
 }
 
 // Makes the set of marks of piece `k` anew: it then has the marks of its cells, and no others.
-// The slices apart, as the cells are only read.
+// The slices apart, as the cells are only read; so the words of the piece are told by them, and not by a text.
 pub fn remark(c: &[u32], p: &mut [u32], s: usize, k: usize)
     requires store { Store c.now p.old s }
     requires here { k < s }
@@ -125,8 +123,8 @@ pub fn remark(c: &[u32], p: &mut [u32], s: usize, k: usize)
     note_cells(p, i, slots::part(c, CELLS * i, n));
 }
 
-// The slices apart, as there is no text in them yet.
 // Makes an empty text in `s` slots. Every word of the slots, the order, the tree and the sets is known afterwards.
+// The slices apart, as there is no text in them yet.
 pub fn clear(c: &mut [u32], p: &mut [u32], s: usize)
     requires some { 0 < s }
     requires most { s ≤ 2048 }
@@ -404,6 +402,7 @@ fn pour(c: &mut [u32], p: &mut [u32], s: usize, i: usize, j: usize) -> usize
         return i + 1;
     }
     let n = (FULL - has).min(used(p, j));
+    // Its two fields say at once that it is the front of the piece.
     let front = Spot {
         piece: j,
         offset: 0,

@@ -9,11 +9,12 @@ ghost use Rattle.pieces.specs.Store.{Gap, Located, Store, before, no_cell, numbe
 ghost use Rattle.pieces.specs.Edits.{replaced};
 ghost use Rattle.pieces.specs.Marks.{Lacks, has};
 
-use crate::{CELLS, HIGH, LOW, TREE, insert_here, note, remove_here, repack, split};
+use crate::{CELLS, insert_here, note, remove_here, repack, split};
 use model::Cell;
 use tree::Spot;
 
 /// A text that is only read: two lent slices of words, and how many slots there are.
+/// No `PartialEq` and no `Hash`: the same cells may stand in other words.
 #[derive(Clone, Copy, Debug)]
 pub struct Text<'a> {
     pub cells: &'a [u32],
@@ -81,6 +82,7 @@ impl<'a> Text<'a> {
         requires { place ≤ before self.now.tables.now self.now.slots }
         ensures { Gap self.now.tables.now self.now.slots place result.piece result.offset }
     {
+        // By its two fields, here and below: a method for each such spot would say less.
         if place == 0 {
             return Spot {
                 piece: 0,
@@ -107,6 +109,7 @@ pub struct TextMut<'a> {
 impl<'a> TextMut<'a> {
     ghost use Rattle.pieces.specs.Text.{Rewrites, cells_of_mut};
 
+    /// The same text, to be read.
     pub fn text(&self) -> Text<'_>
         ensures cells { result.cells.now ≡ self.now.cells.now }
         ensures tables { result.tables.now ≡ self.now.tables.now }
@@ -140,6 +143,7 @@ impl<'a> TextMut<'a> {
         requires mark { change < 4294967295 }
         ensures { Rewrites self.old self.new (take place (cells_of_mut self.old) ++ (new_cells letters.now style change ++ drop place (cells_of_mut self.old))) }
     {
+        // As long as the most letters of a call, as there is no heap.
         let mut new = [0; 4 * CELLS];
         slots::fill(&mut new, 0, letters, style, change);
         self.insert(place, &new[..4 * letters.len()]);
@@ -210,6 +214,7 @@ impl<'a> TextMut<'a> {
     {
         let text = self.text();
         let at = text.locate(place);
+        // In cells: where a file is written the same is counted in words, so there is no method for both.
         let m = n.min(text.used(at.piece) - at.offset);
         remove_here(self.cells, self.tables, self.slots, at, m);
         m

@@ -115,6 +115,7 @@ mod tests {
     {
         let mut n = 0;
         let mut seed: usize = 1;
+        // By number: it is the number of the change, and goes over no row.
         for change in 0..300 {
             seed = (seed * 75 + 74) % 65537;
             let many = 1 + seed % 299;

@@ -88,9 +88,6 @@ pub record Writing (ns o : List ℕ) (a i n : ℕ) (o' : List ℕ) (a' j l : ℕ
   pub place : a' + 4 * l ≡ a + 4 * n
   pub next : j + l ≡ i + n
 
-pub writing_start : (ns o : List ℕ) (a i n : ℕ) → Writing ns o a i n o a i n
-writing_start ns o a i n = record { bytes = refl; place = refl; next = refl }
-
 -- m words more
 pub writing_more : (ns o : List ℕ) (a i n : ℕ) (o' : List ℕ) (a' j l : ℕ) → Writing ns o a i n o' a' j l → (m : ℕ) → m ≤ l → j + l ≤ length ns → (o'' : List ℕ) (a'' : ℕ)
     → o'' ≡ over o' a' (words_bytes (take m (drop j ns))) → a'' ≡ a' + 4 * m → a'' ≤ length o' → Writing ns o a i n o'' a'' (j + m) (l - m)

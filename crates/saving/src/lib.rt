@@ -60,6 +60,7 @@ fn write_cells(text: &Text, from: usize, n: usize, out: &mut [u8], at: usize) ->
     while left > 0 {
         let spot = text.locate(next / 4);
         let first = 4 * spot.offset + next % 4;
+        // In words, where an edit counts in cells: so there is no method for both.
         let m = left.min(4 * text.used(spot.piece) - first);
         let start = 4 * text.number_of(spot.piece, 0) + first;
         at = write_words(&text.cells[start..start + m], out, at);
@@ -70,6 +71,7 @@ fn write_cells(text: &Text, from: usize, n: usize, out: &mut [u8], at: usize) ->
 }
 
 // Writes `n` numbers of the file from number `from` on as an answer, and says how many bytes it has; or nothing, where these numbers are not there.
+// 262405 bytes are room for the longest answer of any call, and each call is lent so many.
 pub fn save(text: &Text, row: &Row, from: u32, n: u32, out: &mut [u8]) -> Option<usize>
     requires row { row.now.len ≤ 65536 }
     requires few { n ≤ 1024 }

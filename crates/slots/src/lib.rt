@@ -1,4 +1,4 @@
-// Cells in lent words, four words a cell: read one, write one, copy a run of cells, paste in those of other words, fill in new letters.
+// Cells in lent words, four words a cell: go over them, read one, write one, take a part, copy a run of cells, paste in those of other words, fill in new letters.
 #![tactic(auto)]
 
 ghost use Rattle.std.specs.Prelude.{◌≡◌, ◌+◌, ◌*◌, ◌/◌, ◌<◌, ◌≤◌, length};
@@ -10,6 +10,7 @@ ghost use Rattle.slots.specs.Cells.{all_cells, cell_at, cells_at, Kept};
 use model::Cell;
 
 /// The cells whose words are lent, one after the other.
+/// No `PartialEq` and no `Hash`: it is gone over once, and never compared.
 #[derive(Clone, Copy, Debug)]
 pub struct Cells<'a> {
     pub words: &'a [u32],
@@ -23,6 +24,7 @@ impl<'a> Iterator for Cells<'a> {
     ghost remaining = { item_count (λ s. all_cells s.words.now) };
 
     fn next(&mut self) -> Option<Cell> {
+        // Not by `read`: the four words are at hand by name, and the words that are left come with them.
         let (first, others) = self.words.split_first_chunk::<4>()?;
         let [letter, style, put_in, struck] = *first;
         self.words = others;
@@ -35,7 +37,7 @@ impl<'a> Iterator for Cells<'a> {
     }
 }
 
-// Cell number `a`.
+// Cell number `a`. By its number, here and below, as a piece tells the number of a cell.
 pub fn read(c: &[u32], a: usize) -> Cell
     requires { 4 * a + 4 ≤ length c.now }
     ensures { cell_of result ≡ cell_at c.now a }
@@ -104,7 +106,9 @@ pub fn fill(c: &mut [u32], a: usize, letters: &[u8], style: u32, change: u32)
     ensures filled { cells_at c.new a (length letters.now) ≡ new_cells letters.now style change }
     ensures kept { Kept c.old c.new a (length letters.now) }
 {
+    // The mark of a change is one more than its number, which is why the greatest number is none of a change.
     let put_in = change + 1;
+    // By number, as `write` takes it: in chunks of words the four of a cell would be written once more.
     for (i, letter) in letters.iter().enumerate() {
         let cell = Cell {
             letter: u32::from(*letter),

@@ -27,7 +27,7 @@ pub loop-i-preserved : goal.loop-i-preserved
 loop-i-preserved c =
     let l = c.loop-i.invariant.1 in (
       span_more _ _ _ _ _ _ c.requires c.loop-i.i c.loop-i.bits _ (cell_of c.cell-x.result)
-          c.cell-x.ensures c.loop-i-test.true l c.loop-i.invariant.0 (bit_of c.sees.result ∙ ap (λ b. pick b 1 0) c.sees.ensures),
+          c.cell-x.ensures c.loop-i-test.true l c.loop-i.invariant.0 (c.from.ensures ∙ (bit_of c.sees.result ∙ ap (λ b. pick b 1 0) c.sees.ensures)),
       omega arith,
     )
 
