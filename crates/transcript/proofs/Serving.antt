@@ -130,10 +130,6 @@ room_good n c u h =
 pub room_answers : (n c u : ℕ) (lines : List (List ℕ)) → room_for n c u ≡ true → answers_under n c u lines ≡ line_answers (limits_for n c u) new_desk lines
 room_answers n c u lines h = rw (room_good n c u h, h) refl
 
--- the line of an answer, and byte 10
-pub told_whole : (a : Answer) (line out : List ℕ) → line ≡ answer_line a → (out ++ line) ++ (10 ∷ []) ≡ out ++ told_line a
-told_whole a line out is = append_assoc out line (10 ∷ []) ∙ ap (λ (xs : List ℕ). out ++ (xs ++ (10 ∷ []))) is
-
 refusal_nine : (n i : ℕ) → length (answer_bytes (refused n i)) ≡ 9
 unfolding answer_bytes words_bytes word_bytes
 refusal_nine n i = refl
@@ -172,18 +168,6 @@ opened_limits n c u ps more is =
 one_told : (a : Answer) → told_lines (a ∷ []) ≡ told_line a
 unfolding told_lines
 one_told a = append-nil (told_line a)
-
--- limits that are refused
-pub limits_refused : (rd : Reading (List ℕ)) (n c u : ℕ) (e : Refusal) → rd ≡ means (n ∷ (c ∷ (u ∷ []))) → room_for n c u ≡ false → e ≡ pick (good_limits n c u) TooLittleMemory LimitsOutOfRange →
-    (lines : List (List ℕ)) → answers_after rd lines ≡ refusal_told e ∷ []
-limits_refused rd n c u e is none why lines =
-    ap (λ (x : Reading (List ℕ)). answers_after x lines) is
-    ∙ (ap (λ (b : Bool). pick (good_limits n c u) (pick b (line_answers (limits_for n c u) new_desk lines) (refused 3 0 ∷ [])) (refused 3 1 ∷ [])) none
-    ∙ (both (good_limits n c u) ∙ ap (λ (x : Refusal). refusal_told x ∷ []) (sym why)))
-  where
-    both : (b : Bool) → pick b (refused 3 0 ∷ []) (refused 3 1 ∷ []) ≡ refusal_told (pick b TooLittleMemory LimitsOutOfRange) ∷ []
-    both true = refl
-    both false = refl
 
 pub file_refused : (rd : Reading (List ℕ)) (e : Refusal) (lines : List (List ℕ)) (out out' : List ℕ) (r : Result (Unit {0}) Fault) → answers_after rd lines ≡ refusal_told e ∷ [] →
     Appends (told_line (refusal_told e)) out out' r → Appends (told_lines (answers_after rd lines)) out out' r
