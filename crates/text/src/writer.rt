@@ -10,7 +10,8 @@ use crate::fault::{Fault, Stop};
 use itoa::Buffer;
 use std::alloc::{AllocError, Global};
 
-// An index, as a cell's numbers stand at fixed places in it.
+// An index, as a cell's numbers stand at fixed places in it. A number at the start of the bytes is read so too, here and below, so that there is
+// one way to read a number.
 fn word(bytes: &[u8], at: usize) -> u32
     requires { at + 4 ≤ length bytes.now }
     ensures { result ≡ word_at bytes.now at }
