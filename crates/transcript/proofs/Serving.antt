@@ -1,9 +1,8 @@
 -- From the contracts of the session and of the lines of text to one line answered, and from one line to all of them. Assumes nothing.
-use Rattle.std.proofs.Common.{◌≡◌, ℕ, suc, ◌+◌, ◌*◌, ◌/◌, ◌<◌, ◌≤◌, Bool, true, false, ◌&&◌, leb, List, [], ◌∷◌, ◌++◌, length, get_or, drop, Ok, Err, Result, sym, refl, ap, ◌∙◌, subst, arith, MatchResult}
+use Rattle.std.proofs.Common.{◌≡◌, ℕ, suc, ◌+◌, ◌*◌, ◌/◌, ◌<◌, ◌≤◌, true, ◌&&◌, leb, List, [], ◌∷◌, ◌++◌, length, get_or, drop, Ok, Err, Result, sym, refl, ap, ◌∙◌, subst, arith, MatchResult}
 use Rattle.std.proofs.lemmas.List.{append_assoc, append-nil, drop_all}
 use Rattle.std.proofs.lemmas.Result.{MatchResult-weaker}
 use Rattle.std.proofs.lemmas.Bool.{and_parts, leb-true, le-leb, lt-ltb}
-use Rattle.model.specs.Paper.{pick}
 use Rattle.model.specs.Calls.{Call, Answer, refused, Desk, Limits, answer, new_desk}
 use Rattle.model.specs.Promise.{all_below}
 use Rattle.model.specs.Origin.{NothingFromNowhere}
@@ -14,11 +13,10 @@ use Rattle.codec.proofs.ReadsBack.{reads_back}
 use Rattle.session.specs.Memory.{cells_words, pieces_words, undo_words, limits_of, Stands, opened_pieces}
 use Rattle.session.specs.Contract.{Does, Called, good_limits, enough}
 use Rattle.text.specs.Lines.{Reading, means, line_reading, limits_reading, BytesOf, Lacks}
-use Rattle.text.specs.Shown.{showable, answer_line}
+use Rattle.text.specs.Shown.{showable}
 use Rattle.text.specs.declared.fault.Fault.{Fault}
 use Rattle.transcript.specs.Transcript.{line_answer, line_after, line_answers, call_lines, room_for, limits_for, answers_under, answers_after, file_answers, told_line, told_lines, transcript}
 use Rattle.session.specs.declared.refusal.Refusal.{Refusal}
-use Rattle.session.specs.declared.refusal.Refusal.TheVariants.{LimitsOutOfRange, TooLittleMemory}
 use Rattle.session.specs.Refusals.{refusal_number, refusal_place, refusal_told}
 use Rattle.transcript.specs.declared.open.OpenDesk.{OpenDesk}
 use Rattle.transcript.specs.Open.{limits_at, StandsFor}
