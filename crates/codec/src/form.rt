@@ -12,7 +12,7 @@ pub enum Form {
     Numbers,
 }
 
-// The first bytes are numbers here, and nowhere else.
+// The first bytes are numbers here, and in `text`, which writes lines of them.
 impl From<Form> for u8 {
     ghost from_gives = { λ form byte. byte ≡ form_number form };
 

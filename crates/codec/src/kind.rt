@@ -27,7 +27,7 @@ pub enum Kind {
 #[derive(Clone, Copy, Debug, PartialEq, Eq, Hash)]
 pub struct UnknownKind(pub u8);
 
-// The first bytes are numbers here, and nowhere else.
+// The first bytes are numbers here, and in `text`, which reads lines as them.
 impl TryFrom<u8> for Kind {
     type Error = UnknownKind;
 
@@ -52,7 +52,8 @@ impl TryFrom<u8> for Kind {
     }
 }
 
-// Field number `k` of a call: four bytes, low byte first.
+// Field number `k` of a call: four bytes, low byte first. (`word` of `text` reads an answer's number so: two functions, as their contracts name
+// different things, and this one is the call's own.)
 fn field(bytes: &[u8], k: usize) -> u32
     requires { 5 + 4 * k ≤ length bytes.now }
     ensures { result ≡ field bytes.now k }

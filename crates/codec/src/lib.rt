@@ -66,7 +66,8 @@ pub enum Call {
     },
 }
 
-// The answers of up to two numbers: the number of a refusal and its place; a number; two numbers.
+// The answers of up to two numbers: the number of a refusal and its place; a number; two numbers. A refusal is two numbers here, as the answer's
+// bytes have it: which refusals there are is the session's.
 #[derive(Clone, Copy, Debug, PartialEq, Eq, Hash)]
 pub enum Answer {
     Refused(u32, u32),

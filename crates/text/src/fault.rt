@@ -6,7 +6,7 @@ ghost use Rattle.text.specs.declared.fault.Stop.TheVariants.{At, NoMemory};
 use std::alloc::{AllocError, AllocFailed};
 use thiserror::Error;
 
-#[derive(Debug, Drop, Error)]
+#[derive(Clone, Copy, Debug, PartialEq, Eq, Hash, Error)]
 pub enum Fault {
     // The place of the first byte that does not fit.
     #[error("byte {0} does not fit")]
@@ -33,7 +33,7 @@ impl<T: Drop> From<AllocFailed<T>> for Fault {
 }
 
 // Why a part is not read or not written.
-#[derive(Clone, Copy, Debug)]
+#[derive(Clone, Copy, Debug, PartialEq, Eq, Hash)]
 pub(crate) enum Stop<'a> {
     // It does not fit, from its first byte here on.
     At(&'a [u8]),

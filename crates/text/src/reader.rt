@@ -17,8 +17,8 @@ enum Mark {
     Wrong,
 }
 
-// The shape of a call's line: its word, how many numbers, and whether letters come last.
-#[derive(Clone, Copy, Debug)]
+// The shape of a call's line: its word, how many numbers, and whether letters come last: a flag, as no letters are here for it to go with.
+#[derive(Clone, Copy, Debug, PartialEq, Eq, Hash)]
 struct Shape {
     word: &'static [u8],
     count: usize,
@@ -30,7 +30,8 @@ impl Shape {
     fn of(k: u8) -> Shape
         ensures { (result.word.now ≡ (shape_of k).word) × (result.count ≡ (shape_of k).count) × (result.lettered ≡ (shape_of k).lettered) × (result.count ≤ 4) }
     {
-        // The numbers are those that a call's bytes begin with.
+        // The numbers are those that a call's bytes begin with. `codec` has an enum of them to itself, which would be no plainer here: each number
+        // goes into the bytes as it is.
         let (word, count, lettered): (&'static [u8], usize, bool) = match k {
             0 => (b"put", 3, true),
             1 => (b"strike", 3, false),
@@ -72,8 +73,10 @@ fn digits(line: &[u8], mut n: u32) -> Result<(u32, &[u8]), &[u8]>
     ensures { Reads (digits_in n line.now) result }
 {
     let mut left = line;
+    // What is left gets shorter byte by byte, and a byte may end the number: no iterator gives what is left.
     while let [x @ b'0'..=b'9', rest @ ..] = left {
-        let more = n as u64 * 10 + (*x - b'0') as u64;
+        // `as`: with `u64::from` the proof that the product fits did not close, as the loop's state has no bound of `n`.
+        let more = n as u64 * 10 + u64::from(*x - b'0');
         match u32::try_from(more) {
             Ok(more) => n = more,
             Err(_) => return Err(left),
@@ -89,7 +92,7 @@ fn number(line: &[u8]) -> Result<(u32, &[u8]), &[u8]>
 {
     match line {
         [b'0', rest @ ..] => Ok((0, rest)),
-        [x @ b'1'..=b'9', rest @ ..] => digits(rest, (*x - b'0') as u32),
+        [x @ b'1'..=b'9', rest @ ..] => digits(rest, u32::from(*x - b'0')),
         _ => Err(line),
     }
 }
@@ -149,6 +152,7 @@ fn letters<'a>(line: &'a [u8], text: &mut Vec<u8>) -> Result<&'a [u8], Stop<'a>>
 {
     let mut escaped = false;
     let mut left = line;
+    // What is left gets shorter byte by byte, and a byte may end the letters: no iterator gives what is left.
     while let [x, rest @ ..] = left {
         match meaning(escaped, *x) {
             Mark::Letter(letter) => {
@@ -172,7 +176,7 @@ fn quoted<'a>(line: &'a [u8], text: &mut Vec<u8>) -> Result<&'a [u8], Stop<'a>>
     letters(literal(line, b" \"")?, text)
 }
 
-// The letters, where the line has any.
+// The letters, where the line has any: whether it has is the shape's to say, and `text` is filled only then.
 fn tail<'a>(line: &'a [u8], lettered: bool, text: &mut Vec<u8>) -> Result<&'a [u8], Stop<'a>>
     requires { text.old.items ≡ [] }
     ensures { Adds (tail_in lettered line.now) text.new.items result }
@@ -193,6 +197,7 @@ fn parse<'a>(line: &'a [u8], k: u8, numbers: &mut [u32], text: &mut Vec<u8>) -> 
     let shape = Shape::of(k);
     let rest = head(line, shape.word, numbers)?;
     let rest = tail(rest, shape.lettered, text)?;
+    // Here, in `limits` and in the writer's `whole`: a function's contract would be longer than these lines.
     if rest.is_empty() {
         Ok(())
     } else {
@@ -200,6 +205,7 @@ fn parse<'a>(line: &'a [u8], k: u8, numbers: &mut [u32], text: &mut Vec<u8>) -> 
     }
 }
 
+// Four bytes, low byte first: a function, as both calls need what it says of a failure.
 fn push_word(out: &mut Vec<u8>, n: u32) -> Result<(), AllocError>
     ensures { out.new.items ≡ (if is_ok result then out.old.items ++ word_bytes n else out.old.items) }
 {
@@ -243,6 +249,7 @@ fn read_as(heap: Global, line: &[u8], k: u8) -> Result<Vec<u8>, Fault>
     let mut text = Vec::new(heap);
     match parse(line, k, numbers, &mut text) {
         Ok(()) => write_call(heap, k, numbers, shape.lettered, text.as_slice()),
+        // As in the writer: one function for both would have to ask that `rest` is no longer than the whole, which each shows in its own way.
         Err(Stop::At(rest)) => Err(Fault::Place(line.len() - rest.len())),
         Err(Stop::NoMemory) => Err(Fault::Memory),
     }
@@ -254,7 +261,7 @@ pub fn read_line(heap: Global, line: &[u8]) -> Result<Vec<u8>, Fault>
     ensures { MatchResult result (λ v. BytesOf (line_reading line.now) v.items) (RefusedAt (line_reading line.now)) }
 {
     let mut far: usize = 0;
-    // The numbers that a call's bytes begin with.
+    // The numbers that a call's bytes begin with: `codec` reads them, and has no list of its kinds to go over.
     for k in 0..12 {
         match read_as(heap, line, k) {
             Ok(call) => return Ok(call),
@@ -278,12 +285,16 @@ fn limits(line: &[u8]) -> Result<[u32; 3], &[u8]>
     }
 }
 
-// The limits of a file's first line: `limits CELLS CHANGES UNDOS`.
+// The limits of a file's first line: `limits CELLS CHANGES UNDOS`. Three numbers, as the type of limits is the session's,
+// on which this crate does not stand.
 pub fn read_limits(line: &[u8]) -> Result<(u32, u32, u32), usize>
     ensures { LimitsRead (limits_reading line.now) result }
 {
     match limits(line) {
-        Ok(numbers) => Ok((numbers[0], numbers[1], numbers[2])),
+        Ok(numbers) => {
+            let [cells, changes, undos] = numbers;
+            Ok((cells, changes, undos))
+        }
         Err(rest) => Err(line.len() - rest.len()),
     }
 }

@@ -10,7 +10,8 @@ use crate::fault::{Fault, Stop};
 use itoa::Buffer;
 use std::alloc::{AllocError, Global};
 
-// An index, as a cell's numbers stand at fixed places in it.
+// An index, as a cell's numbers stand at fixed places in it. A number at the start of the bytes is read so too, here and below, so that there is
+// one way to read a number.
 fn word(bytes: &[u8], at: usize) -> u32
     requires { at + 4 ≤ length bytes.now }
     ensures { result ≡ word_at bytes.now at }
@@ -63,11 +64,11 @@ fn number<'a>(bytes: &'a [u8], out: &mut Vec<u8>) -> Result<&'a [u8], Stop<'a>>
     if bytes.len() < 4 {
         return Err(Stop::At(bytes));
     }
-    push_number(out, word(bytes, 0) as u64)?;
+    push_number(out, u64::from(word(bytes, 0)))?;
     Ok(&bytes[4..])
 }
 
-// A part that an answer can have many of.
+// A part that an answer can have many of. The three that follow derive nothing, as no value of them is made.
 trait Part {
     // What its bytes add to the line so far.
     ghost shown: { List ℕ → List ℕ → Step (List ℕ) };
@@ -171,7 +172,7 @@ fn list<'a>(bytes: &'a [u8], out: &mut Vec<u8>) -> Result<&'a [u8], Stop<'a>>
 fn form<'a>(bytes: &'a [u8], out: &mut Vec<u8>) -> Result<&'a [u8], Stop<'a>>
     ensures { Adds (form_shown out.old.items bytes.now) out.new.items result }
 {
-    // The numbers are those that an answer's bytes begin with.
+    // The numbers are those that an answer's bytes begin with: an enum would be made of the byte only to be matched at once.
     match bytes {
         [0, rest @ ..] => refusal(rest, out),
         [1, rest @ ..] => number(rest, out),

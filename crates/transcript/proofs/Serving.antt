@@ -1,9 +1,8 @@
 -- From the contracts of the session and of the lines of text to one line answered, and from one line to all of them. Assumes nothing.
-use Rattle.std.proofs.Common.{◌≡◌, ℕ, suc, ◌+◌, ◌*◌, ◌/◌, ◌<◌, ◌≤◌, Bool, true, false, ◌&&◌, leb, List, [], ◌∷◌, ◌++◌, length, get_or, drop, Ok, Err, Result, sym, refl, ap, ◌∙◌, subst, arith, MatchResult}
+use Rattle.std.proofs.Common.{◌≡◌, ℕ, suc, ◌+◌, ◌*◌, ◌/◌, ◌<◌, ◌≤◌, true, ◌&&◌, leb, List, [], ◌∷◌, ◌++◌, length, get_or, drop, Ok, Err, Result, sym, refl, ap, ◌∙◌, subst, arith, MatchResult}
 use Rattle.std.proofs.lemmas.List.{append_assoc, append-nil, drop_all}
 use Rattle.std.proofs.lemmas.Result.{MatchResult-weaker}
 use Rattle.std.proofs.lemmas.Bool.{and_parts, leb-true, le-leb, lt-ltb}
-use Rattle.model.specs.Paper.{pick}
 use Rattle.model.specs.Calls.{Call, Answer, refused, Desk, Limits, answer, new_desk}
 use Rattle.model.specs.Promise.{all_below}
 use Rattle.model.specs.Origin.{NothingFromNowhere}
@@ -14,11 +13,10 @@ use Rattle.codec.proofs.ReadsBack.{reads_back}
 use Rattle.session.specs.Memory.{cells_words, pieces_words, undo_words, limits_of, Stands, opened_pieces}
 use Rattle.session.specs.Contract.{Does, Called, good_limits, enough}
 use Rattle.text.specs.Lines.{Reading, means, line_reading, limits_reading, BytesOf, Lacks}
-use Rattle.text.specs.Shown.{showable, answer_line}
+use Rattle.text.specs.Shown.{showable}
 use Rattle.text.specs.declared.fault.Fault.{Fault}
 use Rattle.transcript.specs.Transcript.{line_answer, line_after, line_answers, call_lines, room_for, limits_for, answers_under, answers_after, file_answers, told_line, told_lines, transcript}
 use Rattle.session.specs.declared.refusal.Refusal.{Refusal}
-use Rattle.session.specs.declared.refusal.Refusal.TheVariants.{LimitsOutOfRange, TooLittleMemory}
 use Rattle.session.specs.Refusals.{refusal_number, refusal_place, refusal_told}
 use Rattle.transcript.specs.declared.open.OpenDesk.{OpenDesk}
 use Rattle.transcript.specs.Open.{limits_at, StandsFor}
@@ -130,10 +128,6 @@ room_good n c u h =
 pub room_answers : (n c u : ℕ) (lines : List (List ℕ)) → room_for n c u ≡ true → answers_under n c u lines ≡ line_answers (limits_for n c u) new_desk lines
 room_answers n c u lines h = rw (room_good n c u h, h) refl
 
--- the line of an answer, and byte 10
-pub told_whole : (a : Answer) (line out : List ℕ) → line ≡ answer_line a → (out ++ line) ++ (10 ∷ []) ≡ out ++ told_line a
-told_whole a line out is = append_assoc out line (10 ∷ []) ∙ ap (λ (xs : List ℕ). out ++ (xs ++ (10 ∷ []))) is
-
 refusal_nine : (n i : ℕ) → length (answer_bytes (refused n i)) ≡ 9
 unfolding answer_bytes words_bytes word_bytes
 refusal_nine n i = refl
@@ -172,18 +166,6 @@ opened_limits n c u ps more is =
 one_told : (a : Answer) → told_lines (a ∷ []) ≡ told_line a
 unfolding told_lines
 one_told a = append-nil (told_line a)
-
--- limits that are refused
-pub limits_refused : (rd : Reading (List ℕ)) (n c u : ℕ) (e : Refusal) → rd ≡ means (n ∷ (c ∷ (u ∷ []))) → room_for n c u ≡ false → e ≡ pick (good_limits n c u) TooLittleMemory LimitsOutOfRange →
-    (lines : List (List ℕ)) → answers_after rd lines ≡ refusal_told e ∷ []
-limits_refused rd n c u e is none why lines =
-    ap (λ (x : Reading (List ℕ)). answers_after x lines) is
-    ∙ (ap (λ (b : Bool). pick (good_limits n c u) (pick b (line_answers (limits_for n c u) new_desk lines) (refused 3 0 ∷ [])) (refused 3 1 ∷ [])) none
-    ∙ (both (good_limits n c u) ∙ ap (λ (x : Refusal). refusal_told x ∷ []) (sym why)))
-  where
-    both : (b : Bool) → pick b (refused 3 0 ∷ []) (refused 3 1 ∷ []) ≡ refusal_told (pick b TooLittleMemory LimitsOutOfRange) ∷ []
-    both true = refl
-    both false = refl
 
 pub file_refused : (rd : Reading (List ℕ)) (e : Refusal) (lines : List (List ℕ)) (out out' : List ℕ) (r : Result (Unit {0}) Fault) → answers_after rd lines ≡ refusal_told e ∷ [] →
     Appends (told_line (refusal_told e)) out out' r → Appends (told_lines (answers_after rd lines)) out out' r

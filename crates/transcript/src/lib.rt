@@ -18,7 +18,7 @@ use session::{Limits, Refusal};
 use std::alloc::Global;
 use text::Fault;
 
-// The most that the program has room for.
+// The most that this program has room for: limits of its own, as other programs have theirs.
 const MOST_CELLS: u32 = 2048;
 
 const MOST_CHANGES: u32 = 128;
@@ -50,6 +50,7 @@ fn next_call(file: &[u8]) -> Option<(&[u8], &[u8])>
     ensures { MatchOption result (call_lines file.now ≡ []) (λ p. (call_lines file.now ≡ p.0.now ∷ call_lines p.1.now) × (length p.1.now < length file.now)) }
 {
     let mut rest = file;
+    // Each turn gives the next line and what is left: no iterator, as a line ends where it is found.
     while let Some((line, after)) = next_line(rest) {
         if !is_passed(line) {
             return Some((line, after));

@@ -16,7 +16,8 @@ const PIECES_WORDS: usize = 10512;
 
 const UNDO_WORDS: usize = 1;
 
-// A desk and the memory that it lends. It has no `Debug`, which would print all of that.
+// A desk and the memory that it lends. It has no `Debug`, which would print all of that. The memory is on the heap, as it is too much for a stack:
+// so there can be want of it where a desk is opened.
 #[derive(Drop)]
 pub(crate) struct OpenDesk {
     cells: Vec<u32>,
@@ -100,6 +101,7 @@ impl OpenDesk {
         ensures { (d : Desk) → Reached (limits_at self.old) d → StandsFor self.old d → Appends (told_lines (line_answers (limits_at self.old) d (call_lines file.now))) out.old.items out.new.items result }
     {
         let mut rest = file;
+        // Each turn gives the next line and what is left: no iterator, as a line ends where it is found.
         while let Some((line, after)) = crate::next_call(rest) {
             self.answer_line(line, out)?;
             rest = after;

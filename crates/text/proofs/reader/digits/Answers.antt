@@ -1,4 +1,4 @@
-use Rattle.std.proofs.Common.{◌≤◌, ◌<◌, ◌+◌, ◌-◌, ◌*◌, get_or, sym, ap, ◌∙◌, inl, inr, arith}
+use Rattle.std.proofs.Common.{◌≡◌, ◌≤◌, ◌<◌, ◌+◌, ◌-◌, ◌*◌, get_or, sym, ap, ◌∙◌, inl, inr, arith}
 use Rattle.text.specs.Lines.{digits_in}
 use Rattle.text.proofs.Steps.{digits_done, digits_end, digits_over, digits_more, after}
 use Rattle.text.proofs.reader.digits.Goals as goal
@@ -17,8 +17,9 @@ loop-left-preserved c =
     let xs = c.loop-left.left.now in
     let low : 48 ≤ get_or xs 0 0 = omega arith in
     let high : get_or xs 0 0 ≤ 57 = omega arith in
-    let small : c.loop-left.n * 10 + (get_or xs 0 0 - 48) < 4294967296 = c.in-Ok.ensures.0 in
-    ap (λ n. digits_in n (after xs)) c.in-Ok.ensures.1 ∙ (sym (digits_more c.loop-left.n xs c.in-48-to-57.len_at_least low high small) ∙ c.loop-left.invariant)
+    let small : c.loop-left.n * 10 + (get_or xs 0 0 - 48) < 4294967296 = omega (arith, c.in-Ok.ensures.0) in
+    let more : c.in-Ok.more ≡ c.loop-left.n * 10 + (get_or xs 0 0 - 48) = omega (arith, c.in-Ok.ensures.1) in
+    ap (λ n. digits_in n (after xs)) more ∙ (sym (digits_more c.loop-left.n xs c.in-48-to-57.len_at_least low high small) ∙ c.loop-left.invariant)
 
 pub returns : goal.returns
 returns c =

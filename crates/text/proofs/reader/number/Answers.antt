@@ -1,4 +1,4 @@
-use Rattle.std.proofs.Common.{◌≤◌, get_or, inl, inr, arith}
+use Rattle.std.proofs.Common.{◌≤◌, get_or, sym, inl, inr, arith}
 use Rattle.std.proofs.lemmas.Bool.{ltb-true, ltb-false}
 use Rattle.text.proofs.Steps.{number_none, number_zero, number_wrong, number_more}
 use Rattle.text.proofs.reader.number.Goals as goal
@@ -11,7 +11,7 @@ pub returns-in-49-to-57 : goal.returns-in-49-to-57
 returns-in-49-to-57 c =
     let low : 49 ≤ get_or c.args.line.now 0 0 = omega arith in
     let high : get_or c.args.line.now 0 0 ≤ 57 = omega arith in
-    rw (number_more c.args.line.now c.in-49-to-57.len_at_least low high) c.digits.ensures
+    rw (number_more c.args.line.now c.in-49-to-57.len_at_least low high, sym c.from.ensures) c.digits.ensures
 
 pub returns-in_default : goal.returns-in_default
 returns-in_default c =

@@ -10,5 +10,5 @@ returns-then-bytes-lt4 c = number_short c.args.out.now.items c.args.bytes.now c.
 pub returns : goal.returns
 returns c =
     rw (take_rest c.args.bytes.now 4)
-    (number_whole c.args.out.now.items c.args.bytes.now c.word.result c.if-bytes-lt4.false c.word.ensures
+    (number_whole c.args.out.now.items c.args.bytes.now c.from.result c.if-bytes-lt4.false (c.from.ensures ∙ c.word.ensures)
     ∙ ap (λ ls. got ls (drop 4 c.args.bytes.now)) (sym c.in_ok-push_number.ensures))
