@@ -36,12 +36,14 @@ fn copy_letters(words: &mut [u32], letters: &[u8])
     requires { length letters.now ≤ length words.old }
     ensures { words.new ≡ written words.old letters.now }
 {
+    // An index, as nothing says what `words` are after a loop over `iter_mut().zip(letters)`.
     for (i, letter) in letters.iter().enumerate() {
         words[i] = u32::from(*letter);
     }
 }
 
 // An author is about to put letters in at a place, in one style.
+// `u` and `limit` stand apart, here and below, for the reason in history's log.
 pub fn put(u: &mut [u32], limit: u32, author: u32, place: u32, style: u32, letters: &[u8])
     requires log { Keeps u.old limit }
     requires few { length letters.now ≤ 1024 }
@@ -72,6 +74,7 @@ fn stretch_at<'a>(text: &Text<'a>, place: usize, most: usize) -> &'a [u32]
     ensures { Stretched (cells_in text.now) place most result.now }
 {
     let spot = text.locate(place);
+    // As many as stand in this piece. In two lines, as below only their words are needed, and in a sweep only their number.
     let has = text.used(spot.piece) - spot.offset;
     let from = text.number_of(spot.piece, spot.offset);
     slots::part(text.cells, from, most.min(has))
@@ -179,6 +182,7 @@ fn mark_cells(words: &mut [u32], cells: &[u32], change: u32, first: usize) -> us
 }
 
 // The same of piece `k`, whose first cell has the place `first` in the text.
+// Here and below a change is not the last of all `u32`, as its mark is one more.
 fn mark_piece(words: &mut [u32], text: &Text, k: usize, change: u32, first: usize) -> usize
     requires mark { change < 4294967295 }
     requires here { k < text.now.slots }
@@ -189,6 +193,7 @@ fn mark_piece(words: &mut [u32], text: &Text, k: usize, change: u32, first: usiz
     if !text.may_have(k, change + 1) {
         return 0;
     }
+    // The words of the piece: a function would be a name for this one line.
     let cells = slots::part(text.cells, text.number_of(k, 0), text.used(k));
     mark_cells(words, cells, change, first)
 }
@@ -209,6 +214,7 @@ fn mark_text(words: &mut [u32], text: &Text, change: u32)
 }
 
 // A change is about to be accepted or rejected; `count` cells have its mark.
+// The verdict stands apart from the change, as it only says of which kind the entry is.
 pub fn decision(u: &mut [u32], limit: u32, text: &Text, change: u32, verdict: Verdict, count: u32)
     requires log { Keeps u.old limit }
     requires mark { change < 4294967295 }

@@ -10,7 +10,7 @@ use Rattle.history.specs.Words.{marks_read}
 use Rattle.model.specs.declared.verdict.Verdict.{Verdict}
 use Rattle.restore.specs.Back.{goes, first_mark, marks_in, CanMark}
 use Rattle.pieces.proofs.Rewriting.{rewrites_both, rewrites_text}
-use Rattle.restore.proofs.Rewriting.{rewrites_none, rewrites_as}
+use Rattle.restore.proofs.Rewriting.{rewrites_as}
 
 -- the cell of a mark stands behind its place
 pub first_cell : (ws : List ℕ) → cell_at (drop 1 ws) 0 ≡ (first_mark ws).cell
@@ -111,14 +111,6 @@ pub record Going (went : Cell → Bool) (ws rest : List ℕ) (old new : TextMut)
   pub rewrites : Rewrites old new (cells_of_mut new)
   pub can : CanMark went (marks_in rest) (cells_of_mut new) new.slots
   pub same : marks_back went (marks_in rest) (cells_of_mut new) ≡ marks_back went (marks_in ws) (cells_of_mut old)
-
-pub going_none : (went : Cell → Bool) (ws rest : List ℕ) (t : TextMut) → rest ≡ ws → CanMark went (marks_in ws) (cells_of_mut t) t.slots → Going went ws rest t t
-going_none went ws rest t e h =
-    record {
-      rewrites = rewrites_none t (cells_of_mut t) refl;
-      can = subst (λ r. CanMark went (marks_in r) (cells_of_mut t) t.slots) (sym e) h;
-      same = ap (λ r. marks_back went (marks_in r) (cells_of_mut t)) e;
-    }
 
 module _ (went : Cell → Bool) (ws rest part left : List ℕ) (old new : TextMut) (e : rest ≡ part ++ left) (l : length part ≡ 5) (h : Going went ws rest old new) where
   next : CanMark went (first_mark part ∷ marks_in left) (cells_of_mut new) new.slots

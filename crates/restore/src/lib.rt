@@ -22,6 +22,7 @@ fn put_back(text: &mut TextMut, place: usize, old: &[u32])
     requires fits { length (cells_of_mut text.old) + length old.now / 4 ≤ 768 * (text.old.slots - 1) }
     ensures { Rewrites text.old text.new (take place (cells_of_mut text.old) ++ (all_cells old.now ++ drop place (cells_of_mut text.old))) }
 {
+    // The place by hand: each part goes behind the one before it, and the last may be shorter.
     let mut at = place;
     for part in old.chunks(MOST) {
         text.insert(at, part);
@@ -39,7 +40,8 @@ fn run(text: &mut TextMut, place: usize, standing: usize, old: &[u32])
     put_back(text, place, old);
 }
 
-// Whether the cell went when the change was decided. One of its two marks counts, where a sweep's test of a cell asks for either.
+// Whether the cell went when the change was decided. One of its two marks counts; `u64`, as a mark may be one more than any change.
+// The verdict and the change stand apart, here and below: a value of both would be made only to be taken apart here.
 fn went(cell: Cell, verdict: Verdict, change: u32) -> bool
     ensures { result ≡ goes verdict change (cell_of cell) }
 {
@@ -47,7 +49,7 @@ fn went(cell: Cell, verdict: Verdict, change: u32) -> bool
         Verdict::Accepted => cell.struck,
         Verdict::Rejected => cell.put_in,
     };
-    mark as u64 == change as u64 + 1
+    u64::from(mark) == u64::from(change) + 1
 }
 
 // One mark, by its five words: a cell that went is put in again at its place, one that stayed is overwritten there.

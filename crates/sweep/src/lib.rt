@@ -1,11 +1,11 @@
 // Strike, accept, reject and style over the cells of a text, said once: each is a sweep, which goes over cells in order, drops some and changes others.
 #![tactic(auto)]
 
-ghost use Rattle.std.specs.Prelude.{◌≡◌, ℕ, suc, ◌+◌, ◌*◌, ◌/◌, ◌<◌, ◌≤◌, false, ◌||◌, List, ◌++◌, length, take, drop, ◌==◌, nat_eq};
+ghost use Rattle.std.specs.Prelude.{◌≡◌, suc, ◌+◌, ◌*◌, ◌/◌, ◌<◌, ◌≤◌, false, ◌||◌, List, ◌++◌, length, take, drop, ◌==◌, nat_eq};
 ghost use Rattle.changes.specs.Rows.{changes_in};
 ghost use Rattle.model.specs.Paper.{Change, author_of, pick, touched as touches};
 ghost use Rattle.model.specs.Values.{cell_of};
-ghost use Rattle.pieces.specs.Edits.{Changed, Filled, Resized};
+ghost use Rattle.pieces.specs.Edits.{Changed, Resized};
 ghost use Rattle.pieces.specs.Marks.{Lacks};
 ghost use Rattle.pieces.specs.Store.{Order, Store, piece, slot, used};
 ghost use Rattle.pieces.specs.Text.{cells_in, cells_of_mut, Rewrites};
@@ -59,18 +59,6 @@ fn cleared(mark: u32, change: u32) -> u32
     if is_mark(mark, change) { 0 } else { mark }
 }
 
-// Whether a cell goes.
-fn goes(cell: Cell, row: &Row, action: Action) -> bool
-    ensures { result ≡ is_gone action (changes_in row.now) (cell_of cell) }
-{
-    match action {
-        Action::Strike { author, .. } => is_of(cell.put_in, author, row),
-        Action::Accept { change } => is_mark(cell.struck, change),
-        Action::Reject { change } => is_mark(cell.put_in, change),
-        Action::Style { .. } => false,
-    }
-}
-
 // What a cell is afterwards if it stays.
 fn changed(cell: Cell, action: Action) -> Cell
     ensures { cell_of result ≡ afterwards action (cell_of cell) }
@@ -92,64 +80,8 @@ fn changed(cell: Cell, action: Action) -> Cell
     }
 }
 
-// What becomes of a cell: it goes, or it stays, changed or not.
-fn fate(cell: Cell, row: &Row, action: Action) -> Option<Cell>
-    ensures { left_of result ≡ fate_of action (changes_in row.now) (cell_of cell) }
-{
-    if goes(cell, row, action) {
-        None
-    } else {
-        Some(changed(cell, action))
-    }
-}
-
-// Writes what becomes of cell `i` behind the first `stay` cells, all counted from number `at` on. Returns how many there are now.
-// `at` stands beside the words, here and below, as the cells behind those that are swept are moved in the same words.
-fn sweep_cell(c: &mut [u32], row: &Row, at: usize, i: usize, stay: usize, action: Action) -> usize
-    requires room { 4 * (at + i) + 4 ≤ length c.old }
-    requires behind { stay ≤ i }
-    ensures behind { result ≤ i + 1 }
-    ensures cells { cells_at c.new at result ≡ cells_at c.old at stay ++ fate_of action (changes_in row.now) (cell_at c.old (at + i)) }
-    ensures kept { Kept c.old c.new at result }
-{
-    match fate(slots::read(c, at + i), row, action) {
-        None => stay,
-        Some(cell) => {
-            slots::write(c, at + stay, cell);
-            stay + 1
-        }
-    }
-}
-
-// Sweeps the `n` cells from number `at` on. What is left of them stands at the front. Returns how many are left.
-fn sweep_cells(c: &mut [u32], row: &Row, at: usize, n: usize, action: Action) -> usize
-    requires room { 4 * (at + n) ≤ length c.old }
-    ensures few { result ≤ n }
-    ensures cells { cells_at c.new at result ≡ swept action (changes_in row.now) (cells_at c.old at n) }
-    ensures kept { Kept c.old c.new at n }
-{
-    let mut stay = 0;
-    // An index, as the cells that stay are written over the lent words that are read.
-    for i in 0..n {
-        stay = sweep_cell(c, row, at, i, stay, action);
-    }
-    stay
-}
-
-// Sweeps the `n` cells from number `at` on, and moves the `behind` cells that follow them down. Returns how many of the `n` are left.
-fn sweep_slot(c: &mut [u32], row: &Row, at: usize, n: usize, behind: usize, action: Action) -> usize
-    requires { 4 * (at + n + behind) ≤ length c.old }
-    ensures few { result ≤ n }
-    ensures cells { cells_at c.new at result ≡ swept action (changes_in row.now) (cells_at c.old at n) }
-    ensures moved { cells_at c.new (at + result) behind ≡ cells_at c.old (at + n) behind }
-    ensures kept { Kept c.old c.new at (n + behind) }
-{
-    let left = sweep_cells(c, row, at, n, action);
-    slots::copy(c, at + n, at + left, behind);
-    left
-}
-
 // Piece `k` gets the length `n`, and its set of marks the one that the action writes.
+// The slices apart, as the text is between two states here.
 fn shrink(p: &mut [u32], s: usize, k: usize, n: usize, action: Action)
     requires order { Order p.old s }
     requires here { k < s }
@@ -167,49 +99,6 @@ fn shrink(p: &mut [u32], s: usize, k: usize, n: usize, action: Action)
             }
         }
         Action::Accept { .. } | Action::Reject { .. } | Action::Style { .. } => {}
-    }
-}
-
-// Sweeps `n` cells of a piece, from the spot on. Returns how many of them are left.
-fn sweep_piece(
-    c: &mut [u32],
-    p: &mut [u32],
-    s: usize,
-    row: &Row,
-    spot: Spot,
-    n: usize,
-    action: Action,
-) -> usize
-    requires store { Store c.old p.old s }
-    requires here { spot.piece < s }
-    requires within { spot.offset + n ≤ used p.old spot.piece }
-    ensures changed { Changed c.old p.old c.new p.new s spot.piece (swept_run action (changes_in row.now) (piece c.old p.old spot.piece) spot.offset n) }
-    ensures store { Store c.new p.new s }
-    ensures left { result ≡ length (swept action (changes_in row.now) (take n (drop spot.offset (piece c.old p.old spot.piece)))) }
-    ensures few { result ≤ n }
-{
-    let at = pieces::number_of(p, s, spot.piece, spot.offset);
-    let has = pieces::used(p, spot.piece);
-    let left = sweep_slot(c, row, at, n, has - (spot.offset + n), action);
-    shrink(p, s, spot.piece, has - n + left, action);
-    left
-}
-
-/// Sweeps the `n` cells of the text from `place` on.
-pub fn sweep_run(text: &mut TextMut, row: &Row, place: usize, n: usize, action: Action)
-    requires { place + n ≤ length (cells_of_mut text.old) }
-    ensures { Rewrites text.old text.new (swept_run action (changes_in row.now) (cells_of_mut text.old) place n) }
-{
-    let mut next = place;
-    let mut left = n;
-    // Not a `for`, as only a turn itself shows how many cells it takes.
-    while left > 0 {
-        let lent = text.text();
-        let spot = lent.locate(next);
-        let has = lent.used(spot.piece) - spot.offset;
-        let m = left.min(has);
-        next += sweep_piece(text.cells, text.tables, text.slots, row, spot, m, action);
-        left -= m;
     }
 }
 
@@ -235,36 +124,155 @@ fn concerns(text: &Text, k: usize, action: Action) -> bool
     }
 }
 
-// Sweeps all cells of piece `k`, and makes its set of marks anew: it then has no mark that none of its cells has.
-fn sweep_whole(c: &mut [u32], p: &mut [u32], s: usize, row: &Row, k: usize, action: Action)
-    requires store { Store c.old p.old s }
-    requires here { k < s }
-    ensures { SweptPiece c.old p.old c.new p.new s k (swept action (changes_in row.now) (piece c.old p.old k)) }
-{
-    let text = Text {
-        cells: c,
-        tables: p,
-        slots: s,
-    };
-    if !concerns(&text, k, action) {
-        return;
+// What a sweep does, with the changes of which its marks tell.
+#[derive(Clone, Copy, Debug)]
+struct Sweep<'a> {
+    row: Row<'a>,
+    action: Action,
+}
+
+impl<'a> Sweep<'a> {
+    // Whether a cell goes.
+    fn goes(&self, cell: Cell) -> bool
+        ensures { result ≡ is_gone self.now.action (changes_in self.now.row) (cell_of cell) }
+    {
+        match self.action {
+            Action::Strike { author, .. } => is_of(cell.put_in, author, &self.row),
+            Action::Accept { change } => is_mark(cell.struck, change),
+            Action::Reject { change } => is_mark(cell.put_in, change),
+            Action::Style { .. } => false,
+        }
     }
-    let start = Spot {
-        piece: k,
-        offset: 0,
-    };
-    let has = text.used(k);
-    sweep_piece(c, p, s, row, start, has, action);
-    pieces::remark(c, p, s, k);
+
+    // What becomes of a cell: it goes, or it stays, changed or not.
+    fn fate(&self, cell: Cell) -> Option<Cell>
+        ensures { left_of result ≡ fate_of self.now.action (changes_in self.now.row) (cell_of cell) }
+    {
+        if self.goes(cell) {
+            None
+        } else {
+            Some(changed(cell, self.action))
+        }
+    }
+
+    // Writes what becomes of cell `i` behind the first `stay` cells, all counted from number `at` on. Returns how many there are now.
+    // `at` stands beside the words, here and below, as the cells behind those that are swept are moved in the same words.
+    fn sweep_cell(&self, c: &mut [u32], at: usize, i: usize, stay: usize) -> usize
+        requires room { 4 * (at + i) + 4 ≤ length c.old }
+        requires behind { stay ≤ i }
+        ensures behind { result ≤ i + 1 }
+        ensures cells { cells_at c.new at result ≡ cells_at c.old at stay ++ fate_of self.now.action (changes_in self.now.row) (cell_at c.old (at + i)) }
+        ensures kept { Kept c.old c.new at result }
+    {
+        match self.fate(slots::read(c, at + i)) {
+            None => stay,
+            Some(cell) => {
+                slots::write(c, at + stay, cell);
+                stay + 1
+            }
+        }
+    }
+
+    // Sweeps the `n` cells from number `at` on. What is left of them stands at the front. Returns how many are left.
+    fn sweep_cells(&self, c: &mut [u32], at: usize, n: usize) -> usize
+        requires room { 4 * (at + n) ≤ length c.old }
+        ensures few { result ≤ n }
+        ensures cells { cells_at c.new at result ≡ swept self.now.action (changes_in self.now.row) (cells_at c.old at n) }
+        ensures kept { Kept c.old c.new at n }
+    {
+        let mut stay = 0;
+        // An index, as the cells that stay are written over the lent words that are read.
+        for i in 0..n {
+            stay = self.sweep_cell(c, at, i, stay);
+        }
+        stay
+    }
+
+    // Sweeps the `n` cells from number `at` on, and moves the `behind` cells that follow them down. Returns how many of the `n` are left.
+    fn sweep_slot(&self, c: &mut [u32], at: usize, n: usize, behind: usize) -> usize
+        requires { 4 * (at + n + behind) ≤ length c.old }
+        ensures few { result ≤ n }
+        ensures cells { cells_at c.new at result ≡ swept self.now.action (changes_in self.now.row) (cells_at c.old at n) }
+        ensures moved { cells_at c.new (at + result) behind ≡ cells_at c.old (at + n) behind }
+        ensures kept { Kept c.old c.new at (n + behind) }
+    {
+        let left = self.sweep_cells(c, at, n);
+        slots::copy(c, at + n, at + left, behind);
+        left
+    }
+
+    // Sweeps `n` cells of a piece, from the spot on. Returns how many of them are left.
+    // The slices apart, as the text is between two states here.
+    fn sweep_piece(&self, c: &mut [u32], p: &mut [u32], s: usize, spot: Spot, n: usize) -> usize
+        requires store { Store c.old p.old s }
+        requires here { spot.piece < s }
+        requires within { spot.offset + n ≤ used p.old spot.piece }
+        ensures changed { Changed c.old p.old c.new p.new s spot.piece (swept_run self.now.action (changes_in self.now.row) (piece c.old p.old spot.piece) spot.offset n) }
+        ensures store { Store c.new p.new s }
+        ensures left { result ≡ length (swept self.now.action (changes_in self.now.row) (take n (drop spot.offset (piece c.old p.old spot.piece)))) }
+        ensures few { result ≤ n }
+    {
+        let at = pieces::number_of(p, s, spot.piece, spot.offset);
+        let has = pieces::used(p, spot.piece);
+        let left = self.sweep_slot(c, at, n, has - (spot.offset + n));
+        shrink(p, s, spot.piece, has - n + left, self.action);
+        left
+    }
+
+    // Sweeps all cells of piece `k`, and makes its set of marks anew: it then has no mark that none of its cells has.
+    // The slices apart, as `remark` makes the set right only after the piece.
+    fn sweep_whole(&self, c: &mut [u32], p: &mut [u32], s: usize, k: usize)
+        requires store { Store c.old p.old s }
+        requires here { k < s }
+        ensures { SweptPiece c.old p.old c.new p.new s k (swept self.now.action (changes_in self.now.row) (piece c.old p.old k)) }
+    {
+        let text = Text {
+            cells: c,
+            tables: p,
+            slots: s,
+        };
+        if !concerns(&text, k, self.action) {
+            return;
+        }
+        // Written out, as a spot is just these two numbers.
+        let start = Spot {
+            piece: k,
+            offset: 0,
+        };
+        let has = text.used(k);
+        self.sweep_piece(c, p, s, start, has);
+        pieces::remark(c, p, s, k);
+    }
+}
+
+/// Sweeps the `n` cells of the text from `place` on.
+pub fn sweep_run(text: &mut TextMut, row: &Row, place: usize, n: usize, action: Action)
+    requires { place + n ≤ length (cells_of_mut text.old) }
+    ensures { Rewrites text.old text.new (swept_run action (changes_in row.now) (cells_of_mut text.old) place n) }
+{
+    let sweep = Sweep { row: *row, action };
+    let mut next = place;
+    let mut left = n;
+    // Not a `for`, as only a turn itself shows how many cells it takes.
+    while left > 0 {
+        let lent = text.text();
+        let spot = lent.locate(next);
+        // As many as stand in this piece. In two lines, as a function of them would have to give both the spot and the number.
+        let has = lent.used(spot.piece) - spot.offset;
+        let m = left.min(has);
+        next += sweep.sweep_piece(text.cells, text.tables, text.slots, spot, m);
+        left -= m;
+    }
 }
 
 /// Sweeps all cells of the text.
 pub fn sweep_all(text: &mut TextMut, row: &Row, action: Action)
     ensures { Rewrites text.old text.new (swept action (changes_in row.now) (cells_of_mut text.old)) }
 {
+    let sweep = Sweep { row: *row, action };
     // An index, as the order of the slots is lent memory.
     for k in 0..text.slots {
-        sweep_whole(text.cells, text.tables, text.slots, row, k, action);
+        sweep.sweep_whole(text.cells, text.tables, text.slots, k);
     }
 }
 
@@ -294,6 +302,7 @@ fn touched_piece(text: &Text, k: usize, change: u32) -> usize
     if !may_be_in(text, k, change) {
         return 0;
     }
+    // The words of the piece: a function would be a name for this one line.
     let cells = slots::part(text.cells, text.number_of(k, 0), text.used(k));
     touched_cells(cells, change)
 }

@@ -13,6 +13,6 @@ invariant-loop-k l =
       same_tables : new.tables.ghost_name ≡ old.tables.ghost_name;
       same_slots : new.slots ≡ old.slots;
       frame : Frame old.cells.now old.tables.now new.cells.now new.tables.now old.slots;
-      done : (j : ℕ) → j < l.k → piece new.cells.now new.tables.now j ≡ swept l.action (changes_in l.row) (piece old.cells.now old.tables.now j);
+      done : (j : ℕ) → j < l.k → piece new.cells.now new.tables.now j ≡ swept l.sweep.action (changes_in l.sweep.row) (piece old.cells.now old.tables.now j);
       others : (j : ℕ) → l.k ≤ j → j < old.slots → piece new.cells.now new.tables.now j ≡ piece old.cells.now old.tables.now j;
     }

@@ -15,7 +15,7 @@ invariant-loop-left l =
       same_slots : new.slots ≡ old.slots;
       frame : Frame old.cells.now old.tables.now new.cells.now new.tables.now old.slots;
       within : l.next + l.left ≤ before new.tables.now new.slots;
-      swept : swept_run l.action (changes_in l.row) (cells_of_mut new) l.next l.left ≡ swept_run l.action (changes_in l.row) (cells_of_mut old) l.initial.next l.initial.left;
+      swept : swept_run l.sweep.action (changes_in l.sweep.row) (cells_of_mut new) l.next l.left ≡ swept_run l.sweep.action (changes_in l.sweep.row) (cells_of_mut old) l.initial.next l.initial.left;
     }
 
 abbrev pub decreases-loop-left : goal.decreases-loop-left

@@ -1,6 +1,6 @@
 use Rattle.std.proofs.Common.{◌+◌, ◌∙◌, arith}
 use Rattle.slots.proofs.Words.{kept_cells_below, kept_cells_above}
-use Rattle.sweep.proofs.sweep_slot.Goals as goal
+use Rattle.sweep.proofs.Sweep.sweep_slot.Goals as goal
 
 pub returns-clause-cells : goal.returns-clause-cells
 returns-clause-cells c =

@@ -6,7 +6,7 @@ use Rattle.pieces.proofs.Change.{frame_both}
 use Rattle.pieces.proofs.Edit.{beside_edited}
 use Rattle.sweep.proofs.Runs.{swept_run_all}
 use Rattle.sweep.proofs.Sets.{beside_piece}
-use Rattle.sweep.proofs.sweep_whole.Goals as goal
+use Rattle.sweep.proofs.Sweep.sweep_whole.Goals as goal
 
 pub returns : goal.returns
 returns c =
@@ -17,7 +17,7 @@ returns c =
     let p = c.args.p.now in
     let q = c.sweep_piece.new.p in
     let r = c.remark.new.p in
-    let all = swept_run_all c.args.action (changes_in c.args.row.now) (piece old p k) c.used-has.result (length_piece old p k ∙ sym c.used-has.ensures) in
+    let all = swept_run_all c.args.self.now.action (changes_in c.args.self.now.row) (piece old p k) c.used-has.result (length_piece old p k ∙ sym c.used-has.ensures) in
     let h = c.sweep_piece.ensures.changed in
     let e = c.remark.ensures in
     record {

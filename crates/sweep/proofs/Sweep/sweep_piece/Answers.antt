@@ -6,7 +6,7 @@ use Rattle.pieces.proofs.Edit.{store_after}
 use Rattle.sweep.specs.Sweep.{swept}
 use Rattle.sweep.proofs.Sets.{marked_after}
 use Rattle.sweep.proofs.Steps.{left_here, swept_here}
-use Rattle.sweep.proofs.sweep_piece.Goals as goal
+use Rattle.sweep.proofs.Sweep.sweep_piece.Goals as goal
 
 pub returns : goal.returns
 returns c =
@@ -18,13 +18,13 @@ returns c =
     let k = c.args.spot.piece in
     let o = c.args.spot.offset in
     let n = c.args.n in
-    let a = c.args.action in
+    let a = c.args.self.now.action in
     let order = c.requires.store.table.order in
     let within = c.requires.within in
     let small = order.small k c.requires.here in
     let e = rw c.used-has.ensures at c.sweep_slot-left.ensures in
     let few = e.few in
-    let cs = changes_in c.args.row.now in
+    let cs = changes_in c.args.self.now.row in
     let left = left_here old new p k o n c.number_of-at.result c.sweep_slot-left.result a cs within small few c.number_of-at.ensures e.cells in
     let filled = swept_here old new p k o n c.number_of-at.result c.sweep_slot-left.result a cs within small few c.number_of-at.ensures e.cells e.moved e.kept in
     let h = replaced_here old p new q s k o n _ (swept a cs (take n (drop o (piece old p k)))) order c.requires.here within (omega arith) (omega arith) filled c.shrink.ensures.resized in
