@@ -50,7 +50,7 @@ impl Limits {
     pub fn are_allowed(self) -> bool
         ensures { result ≡ good_limits self.cells self.changes self.undos }
     {
-        (self.cells <= MOST_CELLS) & ((self.changes <= MOST_CHANGES) & (self.undos <= MOST_UNDOS))
+        self.cells <= MOST_CELLS && (self.changes <= MOST_CHANGES && self.undos <= MOST_UNDOS)
     }
 
     /// Whether slices that have so many words are as long as these limits ask for.
@@ -58,7 +58,7 @@ impl Limits {
         ensures { result ≡ (nat_le (cells_words self.cells) lent.cells && (nat_le (pieces_words self.changes) lent.pieces && nat_le (undo_words self.undos) lent.undo)) }
     {
         let asked = words_for(self);
-        (asked.cells <= lent.cells) & ((asked.pieces <= lent.pieces) & (asked.undo <= lent.undo))
+        asked.cells <= lent.cells && (asked.pieces <= lent.pieces && asked.undo <= lent.undo)
     }
 }
 
