@@ -109,6 +109,7 @@ fn suffices(cells: &[u32], pieces: &[u32], undo: &[u32]) -> bool
     if pieces.len() < 3 {
         return false;
     }
+    // the first three words of the pieces
     let limits = Limits {
         cells: pieces[0],
         changes: pieces[1],

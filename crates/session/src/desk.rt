@@ -8,7 +8,8 @@ use changes::Row;
 use model::{Change, Verdict};
 use pieces::Text;
 
-/// How many words stand before the row of changes.
+/// How many words stand before the row of changes. Words 0 to 2 are the limits of cells, changes and undos, and word 3 is how many changes there are: by
+/// their numbers here, as the C interface lends them (specs/Memory.antt).
 pub const HEAD: usize = 16;
 
 /// The lent words: the cells are the slots of the text. The pieces begin with the limits and how many changes there are; the row of changes and the

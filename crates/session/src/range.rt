@@ -24,7 +24,8 @@ pub fn within(call: Call, letters: &[u8]) -> bool
         Call::Find { way, .. } => is_way(way) && (all_good(letters) && counted(letters.len(), 256)),
         Call::Count { way } => is_way(way),
         Call::Save { count, .. } => counted(count as usize, 1024),
-        Call::Accept { .. } | Call::Reject { .. } | Call::Undo | Call::Redo | Call::Change { .. } => true,
+        Call::Accept { .. } | Call::Reject { .. } | Call::Undo | Call::Redo | Call::Change { .. } =>
+            true,
     }
 }
 

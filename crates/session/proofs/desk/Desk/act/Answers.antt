@@ -1,7 +1,6 @@
-use Rattle.std.proofs.Common.{◌≡◌, refl, arith}
+use Rattle.std.proofs.Common.{refl, arith}
 use Rattle.model.specs.Calls.{call_number, find, redo, save, undo}
-use Rattle.model.specs.Values.{way_number}
-use Rattle.session.proofs.Ranges.{count_range, way_found, way_is}
+use Rattle.session.proofs.Ranges.{count_range}
 use Rattle.session.proofs.Saying.{out_of_range}
 use Rattle.session.proofs.desk.Desk.act.Goals as goal
 

@@ -1,10 +1,8 @@
 use Rattle.std.proofs.Common.{◌≡◌, true, refl, sym, ◌∙◌}
 use Rattle.std.proofs.lemmas.Result.{err_from_is_err_and}
 use Rattle.model.specs.Calls.{good_fields}
-use Rattle.model.specs.Values.{way_number}
 use Rattle.codec.specs.Values.{meaning, told}
-use Rattle.session.proofs.Looking.{show_range}
-use Rattle.session.proofs.Ranges.{in_range_is, not_shown, out_is_bad, way_found, way_is}
+use Rattle.session.proofs.Ranges.{in_range_is, not_shown, out_is_bad}
 use Rattle.session.proofs.Saying.{out_of_range, said}
 use Rattle.session.proofs.desk.Desk.serve.Goals as goal
 
