@@ -95,7 +95,7 @@ pub extern "C" fn desk_call(
     requires { Callable cells.old pieces.old undo.old }
     ensures { CallReturns (long_enough cells.old pieces.old undo.old && nat_le 262405 (length answer.old)) result cells.old pieces.old undo.old call.now answer.old cells.new pieces.new undo.new answer.new }
 {
-    if suffices(cells, pieces, undo) & (ANSWER_BYTES <= answer.len()) {
+    if suffices(cells, pieces, undo) && ANSWER_BYTES <= answer.len() {
         session::call(cells, pieces, undo, call, answer) as i64
     } else {
         -1
@@ -109,6 +109,7 @@ fn suffices(cells: &[u32], pieces: &[u32], undo: &[u32]) -> bool
     if pieces.len() < 3 {
         return false;
     }
+    // the first three words of the pieces
     let limits = Limits {
         cells: pieces[0],
         changes: pieces[1],
@@ -119,14 +120,14 @@ fn suffices(cells: &[u32], pieces: &[u32], undo: &[u32]) -> bool
         pieces: pieces.len(),
         undo: undo.len(),
     };
-    limits.are_allowed() & limits.have_room(lent)
+    limits.are_allowed() && limits.have_room(lent)
 }
 
 // A refusal as one number.
 fn refused(refusal: Refusal) -> i64
     ensures { result ≡ code (refusal_number refusal) (refusal_place refusal) }
 {
-    -(refusal.number() as i64 * 4_294_967_296 + refusal.place() as i64)
+    -(i64::from(refusal.number()) * 4_294_967_296 + i64::from(refusal.place()))
 }
 
 // What desk_call asks of memory holds once desk_open has opened it, and after every desk_call.

@@ -1,9 +1,8 @@
 -- Letters and numbers in range. Assumes nothing.
-use Rattle.std.proofs.Common.{rules, ◌≡◌, ℕ, ◌<◌, Bool, true, false, ◌&&◌, ◌||◌, eqb, leb, List, [], ◌∷◌, Ok, Err, Result, IsOk, sym, refl, ap, ◌∙◌, arith, ltb-true}
+use Rattle.std.proofs.Common.{◌≡◌, ℕ, ◌<◌, Bool, true, false, ◌&&◌, ◌||◌, eqb, leb, List, [], ◌∷◌, sym, refl, ap, ◌∙◌, ltb-true}
 use Rattle.std.specs.List.{list_all}
 use Rattle.model.specs.Calls.{call_number, count, good_call, good_fields, good_letters}
-use Rattle.model.specs.Values.{NumbersWay, way_number}
-use Rattle.model.specs.declared.way.UnknownWay.{UnknownWay}
+use Rattle.model.specs.Values.{way_number}
 use Rattle.model.specs.declared.way.Way.{Way}
 use Rattle.model.specs.declared.way.Way.TheVariants.{Everything, Accepted, Rejected}
 use Rattle.codec.specs.Values.{meaning}
@@ -58,14 +57,6 @@ not_shown (Find k i) h = refl
 not_shown (Count k) h = refl
 not_shown (Change c) h = refl
 not_shown (Save i n) h = refl
-
--- a number below 3 is that of a way to look
-pub way_found : {n : ℕ} (r : Result Way UnknownWay) → NumbersWay n r → n < 3 → IsOk r
-way_found (Ok w) h l = search rules
-way_found (Err e) h l = absurd (omega (arith, h.1))
-
-pub way_is : {n : ℕ} {r : Result Way UnknownWay} {w : Way} → r ≡ Ok w → NumbersWay n r → way_number w ≡ n
-way_is e h = rw e at h
 
 -- every way to look can be asked for
 pub way_good : (w : Way) → good_fields (count (way_number w)) ≡ true

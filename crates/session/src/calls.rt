@@ -39,8 +39,11 @@ impl<'a> Desk<'a> {
                 row,
                 count,
             } => {
+                let Ok(way) = Way::try_from(way) else {
+                    return Err(Refusal::OutOfRange);
+                };
                 let rows = Rows {
-                    way: Way::try_from(way).unwrap(),
+                    way,
                     width,
                     first: row,
                     count,
@@ -78,9 +81,15 @@ impl<'a> Desk<'a> {
                 count,
                 style,
             } => self.style(place, count, style),
-            Call::Count { way } => Ok(Answer::Number(self.count(Way::try_from(way).unwrap()))),
+            Call::Count { way } => {
+                let Ok(way) = Way::try_from(way) else {
+                    return Err(Refusal::OutOfRange);
+                };
+                Ok(Answer::Number(self.count(way)))
+            }
             Call::Change { change } => self.ask(change),
             Call::Show { .. } => unreachable(),
+            // Four arms and no `|`, as the proof of one arm for all of them did not close.
             Call::Undo => Err(Refusal::OutOfRange),
             Call::Redo => Err(Refusal::OutOfRange),
             Call::Find { .. } => Err(Refusal::OutOfRange),
@@ -122,6 +131,7 @@ impl<'a> Desk<'a> {
         requires room { 262405 ≤ length answer.old }
         ensures { Ended self.now.cells.now self.now.pieces.now (shows (way_number rows.way) rows.width rows.first rows.count) self.now.cells.now self.now.pieces.now answer.old answer.new result }
     {
+        // Apart again, as the contract of `layout::show` speaks of each of them.
         layout::show(
             &self.text(),
             rows.way,

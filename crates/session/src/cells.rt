@@ -1,6 +1,6 @@
 // Changes of the text in the desk's memory. These are functions of both slices and not methods of `Desk`: that a part of one field is lent while the
 // other field is used gets no proof yet.
-ghost use Rattle.std.specs.Prelude.{◌≡◌, ◌+◌, ◌<◌, ◌≤◌, ◌++◌, length, take, drop, slice_index};
+ghost use Rattle.std.specs.Prelude.{◌+◌, ◌<◌, ◌≤◌, ◌++◌, length, take, drop, slice_index};
 ghost use Rattle.model.specs.Paper.{new_cells};
 ghost use Rattle.session.specs.Acts.{Wrote, with_cells};
 ghost use Rattle.session.specs.Memory.{Held, paper_of};

@@ -1,5 +1,5 @@
 // Striking out, styles, accepting, rejecting, and asking for a change.
-ghost use Rattle.std.specs.Prelude.{◌≡◌, ◌+◌, true, false, length, Some, None, nat_le};
+ghost use Rattle.std.specs.Prelude.{◌≡◌, ◌+◌, true, false, Some, None, nat_le};
 
 use crate::desk::Desk;
 use crate::{Refusal, cells};

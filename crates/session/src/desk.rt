@@ -1,5 +1,5 @@
 // The memory that a paper is kept in, as one value.
-ghost use Rattle.std.specs.Prelude.{◌≡◌, ◌+◌, ◌-◌, ◌*◌, ◌<◌, ◌≤◌, true, false, [], ◌∷◌, ◌++◌, length, take, drop, MatchResult, slice_index};
+ghost use Rattle.std.specs.Prelude.{◌≡◌, ◌+◌, ◌-◌, ◌*◌, ◌<◌, ◌≤◌, true, false, [], ◌∷◌, ◌++◌, length, drop, MatchResult, slice_index};
 ghost use Rattle.std.proofs.Props.{props};
 ghost use Rattle.session.specs.Memory.{Held, slots_of};
 
@@ -8,7 +8,8 @@ use changes::Row;
 use model::{Change, Verdict};
 use pieces::Text;
 
-/// How many words stand before the row of changes.
+/// How many words stand before the row of changes. Words 0 to 2 are the limits of cells, changes and undos, and word 3 is how many changes there are: by
+/// their numbers here, as the C interface lends them (specs/Memory.antt).
 pub const HEAD: usize = 16;
 
 /// The lent words: the cells are the slots of the text. The pieces begin with the limits and how many changes there are; the row of changes and the
@@ -97,7 +98,7 @@ impl<'a> Desk<'a> {
     pub fn room(&self, cells: usize) -> Result<u32, Refusal>
         ensures { MatchResult result (λ number. (number ≡ slice_index self.now.pieces.now 3) × (allows self.now.pieces.now cells ≡ true)) (λ e. (e ≡ PastLimits) × (allows self.now.pieces.now cells ≡ false)) }
     {
-        if (cells <= self.pieces[0] as usize) & (self.pieces[3] < self.pieces[1]) {
+        if cells <= self.pieces[0] as usize && self.pieces[3] < self.pieces[1] {
             Ok(self.pieces[3])
         } else {
             Err(Refusal::PastLimits)

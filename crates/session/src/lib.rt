@@ -20,7 +20,7 @@ use codec::Answer;
 use desk::{Desk, HEAD};
 pub use refusal::Refusal;
 
-/// How many bytes the longest answer has: 64 rows of 256 cells.
+/// How many bytes the longest answer has: 64 rows of 256 cells. Contracts have the number itself, as include/desk.h tells it to callers in C.
 pub const ANSWER_BYTES: usize = 262_405;
 
 const MOST_CELLS: u32 = 1_000_000;
@@ -50,7 +50,7 @@ impl Limits {
     pub fn are_allowed(self) -> bool
         ensures { result ≡ good_limits self.cells self.changes self.undos }
     {
-        (self.cells <= MOST_CELLS) & ((self.changes <= MOST_CHANGES) & (self.undos <= MOST_UNDOS))
+        self.cells <= MOST_CELLS && (self.changes <= MOST_CHANGES && self.undos <= MOST_UNDOS)
     }
 
     /// Whether slices that have so many words are as long as these limits ask for.
@@ -58,11 +58,11 @@ impl Limits {
         ensures { result ≡ (nat_le (cells_words self.cells) lent.cells && (nat_le (pieces_words self.changes) lent.pieces && nat_le (undo_words self.undos) lent.undo)) }
     {
         let asked = words_for(self);
-        (asked.cells <= lent.cells) & ((asked.pieces <= lent.pieces) & (asked.undo <= lent.undo))
+        asked.cells <= lent.cells && (asked.pieces <= lent.pieces && asked.undo <= lent.undo)
     }
 }
 
-// The sizes that the limits ask for, whether or not a desk can be opened with them.
+// The sizes that the limits ask for, whether or not a desk can be opened with them. (By numbers: `pieces::slots_for` has a bound, which such limits may pass.)
 pub fn words_for(limits: Limits) -> Sizes
     ensures cells { result.cells ≡ cells_words limits.cells }
     ensures pieces { result.pieces ≡ pieces_words limits.changes }
@@ -87,6 +87,7 @@ pub fn open(
     if !limits.are_allowed() {
         return Err(Refusal::LimitsOutOfRange);
     }
+    // By name, here and in `capi`: a function of the three slices would be no shorter.
     let lent = Sizes {
         cells: cells.len(),
         pieces: pieces.len(),

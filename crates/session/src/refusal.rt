@@ -36,8 +36,7 @@ impl Refusal {
         match self {
             Refusal::NotACall { .. } => 1,
             Refusal::OutOfRange => 2,
-            Refusal::LimitsOutOfRange => 3,
-            Refusal::TooLittleMemory => 3,
+            Refusal::LimitsOutOfRange | Refusal::TooLittleMemory => 3,
             Refusal::NoSuchCells { .. } => 4,
             Refusal::NoSuchChange => 5,
             Refusal::NotOpen => 6,
@@ -52,14 +51,14 @@ impl Refusal {
     {
         match self {
             Refusal::NotACall { at } => u32::try_from(at).unwrap_or(u32::MAX),
-            Refusal::OutOfRange => 0,
             Refusal::LimitsOutOfRange => 1,
-            Refusal::TooLittleMemory => 0,
             Refusal::NoSuchCells { field } => field,
-            Refusal::NoSuchChange => 0,
-            Refusal::NotOpen => 0,
             Refusal::NoSuchRows => 2,
-            Refusal::PastLimits => 0,
+            Refusal::OutOfRange
+            | Refusal::TooLittleMemory
+            | Refusal::NoSuchChange
+            | Refusal::NotOpen
+            | Refusal::PastLimits => 0,
         }
     }
 }

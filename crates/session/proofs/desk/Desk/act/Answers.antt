@@ -1,7 +1,6 @@
-use Rattle.std.proofs.Common.{◌≡◌, refl}
+use Rattle.std.proofs.Common.{refl, arith}
 use Rattle.model.specs.Calls.{call_number, find, redo, save, undo}
-use Rattle.model.specs.Values.{way_number}
-use Rattle.session.proofs.Ranges.{count_range, way_found, way_is}
+use Rattle.session.proofs.Ranges.{count_range}
 use Rattle.session.proofs.Saying.{out_of_range}
 use Rattle.session.proofs.desk.Desk.act.Goals as goal
 
@@ -14,8 +13,11 @@ strike-requires c = record { good = rw c.in-Strike.is at c.requires.good }
 pub style-requires : goal.style-requires
 style-requires c = record { good = rw c.in-Style.is at c.requires.good }
 
-pub unwrap-requires : goal.unwrap-requires
-unwrap-requires c = way_found c.try_from.result c.try_from.ensures (count_range c.in-Count.way (rw c.in-Count.is at c.requires.good))
+pub returns-in_default : goal.returns-in_default
+returns-in_default c =
+    let good = count_range c.in-Count.way (rw c.in-Count.is at c.requires.good) in
+    let bad = c.in_default.ensures.1 in
+    absurd (omega (arith, good, bad))
 
 pub returns-in-Put : goal.returns-in-Put
 returns-in-Put c = rw c.in-Put.is c.put.ensures
@@ -31,11 +33,6 @@ returns-in-Reject c = rw c.in-Reject.is c.decide-in-Reject.ensures
 
 pub returns-in-Style : goal.returns-in-Style
 returns-in-Style c = rw c.in-Style.is c.style.ensures
-
-pub returns-in-Count : goal.returns-in-Count
-returns-in-Count c =
-    let way : way_number c.unwrap.result ≡ c.in-Count.way = way_is c.unwrap.ensures c.try_from.ensures in
-    rw c.in-Count.is record { same_cells = refl; same_pieces = refl; acted = rw way at c.count.ensures }
 
 pub returns-in-Change : goal.returns-in-Change
 returns-in-Change c = rw c.in-Change.is record { same_cells = refl; same_pieces = refl; acted = c.ask.ensures }

@@ -1,10 +1,8 @@
 use Rattle.std.proofs.Common.{◌≡◌, true, refl, sym, ◌∙◌}
 use Rattle.std.proofs.lemmas.Result.{err_from_is_err_and}
 use Rattle.model.specs.Calls.{good_fields}
-use Rattle.model.specs.Values.{way_number}
 use Rattle.codec.specs.Values.{meaning, told}
-use Rattle.session.proofs.Looking.{show_range}
-use Rattle.session.proofs.Ranges.{in_range_is, not_shown, out_is_bad, way_found, way_is}
+use Rattle.session.proofs.Ranges.{in_range_is, not_shown, out_is_bad}
 use Rattle.session.proofs.Saying.{out_of_range, said}
 use Rattle.session.proofs.desk.Desk.serve.Goals as goal
 
@@ -15,27 +13,15 @@ returns-then-not-within c =
     let bad = out_is_bad ps c.args.call c.args.letters.now (sym c.if-not-within.ensures) in
     record { same_cells = refl; same_pieces = refl; ended = (out_of_range cs ps (meaning c.args.call c.args.letters.now) c.args.self.now.held bad, refl) }
 
-pub unwrap-requires : goal.unwrap-requires
-unwrap-requires c =
+pub show-requires-clause-good : goal.show-requires-clause-good
+show-requires-clause-good c =
     let good : good_fields (meaning c.args.call c.args.letters.now) ≡ true = sym (in_range_is c.args.call c.args.letters.now) ∙ sym c.if-not-within.ensures in
-    let range = show_range c.args.self.now.cells.now c.args.self.now.pieces.now c.in-Show.way c.in-Show.width c.in-Show.row c.in-Show.count c.args.self.now.held (rw c.in-Show.is at good) in
-    way_found c.try_from.result c.try_from.ensures range.0
-
-pub show-requires : goal.show-requires
-show-requires c =
-    let good : good_fields (meaning c.args.call c.args.letters.now) ≡ true = sym (in_range_is c.args.call c.args.letters.now) ∙ sym c.if-not-within.ensures in
-    let way : way_number c.unwrap.result ≡ c.in-Show.way = way_is c.unwrap.ensures c.try_from.ensures in
-    record { good = rw way (rw c.in-Show.is at good); room = c.requires }
+    rw c.in-Ok.ensures (rw c.in-Show.is at good)
 
 pub act-requires : goal.act-requires
 act-requires c =
     let good : good_fields (meaning c.args.call c.args.letters.now) ≡ true = sym (in_range_is c.args.call c.args.letters.now) ∙ sym c.if-not-within.ensures in
     record { good = good; short = not_shown c.args.call c.in_default.not-Show }
-
-pub returns-in-Show : goal.returns-in-Show
-returns-in-Show c =
-    let way : way_number c.unwrap.result ≡ c.in-Show.way = way_is c.unwrap.ensures c.try_from.ensures in
-    rw c.in-Show.is record { same_cells = refl; same_pieces = refl; ended = rw way at c.show.ensures }
 
 pub returns-in_err-short-in_default : goal.returns-in_err-short-in_default
 returns-in_err-short-in_default c =
