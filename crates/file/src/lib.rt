@@ -1,7 +1,7 @@
 // A paper's file: the numbers in a text, and the paper that some numbers are.
 #![tactic(auto)]
 
-ghost use Rattle.std.specs.Prelude.{◌≡◌, ◌+◌, ◌-◌, ◌*◌, ◌<◌, ◌≤◌, length, Ok, Err, MatchBool, MatchOption, MatchResult, slice_index, slice_index_or};
+ghost use Rattle.std.specs.Prelude.{◌≡◌, ◌+◌, ◌-◌, ◌*◌, ◌<◌, length, Ok, Err, MatchBool, MatchOption, MatchResult, slice_index, slice_index_or};
 ghost use Rattle.file.specs.Laws.{OneWay, ReadsBack, WordsAre};
 ghost use Rattle.file.specs.Paper.{Ceases, IsFile, paper_of};
 ghost use Rattle.file.specs.Places.{MarkFits, NumberFits, last};
@@ -11,6 +11,7 @@ ghost use Rattle.model.specs.Values.{cell_of, change_of};
 
 use model::{Cell, Change};
 
+// The limits of a printed paper. Those of a transcript's desk are as large, but another program's: each has its own.
 const MAX_CHANGES: u32 = 128;
 
 const MAX_CELLS: usize = 2048;
@@ -36,7 +37,7 @@ fn with_digit(value: u32, c: u8) -> Option<u32>
     if !c.is_ascii_digit() {
         return None;
     }
-    u32::try_from(10 * value as u64 + (c - b'0') as u64).ok()
+    u32::try_from(10 * u64::from(value) + u64::from(c - b'0')).ok()
 }
 
 // What a word is worth, if it is a number below 2^32.
@@ -56,8 +57,9 @@ fn number_of(word: &[u8]) -> Option<u32>
 pub fn numbers(text: &[u8], out: &mut [u32]) -> Result<usize, usize>
     ensures { MatchResult result (AllRead text.now out.old out.new) (Stops text.now out.old out.new) }
 {
+    // Counted by hand, as the count is also the answer once the words end.
     let mut count = 0;
-    for word in text.split(|c| is_white(*c)).filter(|word| word.len() > 0) {
+    for word in text.split(|c| is_white(*c)).filter(|word| !word.is_empty()) {
         if count == out.len() {
             return Err(count);
         }
@@ -85,6 +87,7 @@ fn number_fits(numbers: &[u32], i: usize) -> bool
     if i == 0 {
         return number <= MAX_CHANGES;
     }
+    // A change is its author and what became of it, by their places too: the limits of both, as `changes` has them.
     if i <= last {
         return number < if i % 2 == 1 { 256 } else { 3 };
     }
@@ -103,6 +106,7 @@ fn number_fits(numbers: &[u32], i: usize) -> bool
 pub fn read(numbers: &[u32]) -> Result<Counts, usize>
     ensures { MatchResult result (λ c. IsFile numbers.now c.changes c.cells) (Ceases numbers.now) }
 {
+    // An index in the chain: whether a number fits depends on its place, and the place is the answer.
     if let Some(i) = (0..numbers.len()).find(|i| !number_fits(numbers, *i)) {
         return Err(i);
     }
@@ -119,7 +123,7 @@ pub fn read(numbers: &[u32]) -> Result<Counts, usize>
     })
 }
 
-// Change number k of a file.
+// Change number k of a file. `counts` are for the contracts: numbers are the file of a paper of so many changes and cells.
 pub fn change(numbers: &[u32], counts: Counts, k: usize) -> Change
     requires { (k < counts.changes) × (IsFile numbers.now counts.changes counts.cells) }
     ensures { (d : PaperChange) → slice_index_or (paper_of numbers.now counts.changes counts.cells).changes k d ≡ change_of result }

@@ -1,6 +1,8 @@
 // The cells of a paper as marked letters of a page: what is put in is underlined and what is struck out is struck through, each in the colour of its author.
 // What has letters of the paper is appended by functions and is no `Display`: a letter may be any byte, and `Display` writes a `str`.
 // `out` and `changes` stay parameters: methods of a struct of both would each have to say that the changes stay as they were.
+// `push_title` and `push_open` have none: a `Display` of each would be a struct of its parameters with the same lines inside, no plainer.
+// Where a vector's own method comes last, `Ok(())` follows it: it says what it appends in both outcomes, where our contracts speak of success only.
 #![tactic(auto)]
 
 ghost use Rattle.std.specs.Prelude.{◌≡◌, ◌-◌, ◌<◌, ◌++◌, map, OnOk, Some};
@@ -16,7 +18,7 @@ use std::alloc::AllocError;
 use std::fmt;
 use std::io::Write;
 
-// The letter that ends a paragraph.
+// The letter that ends a paragraph: a byte, as in `printing`.
 const END: u8 = 10;
 
 // A letter, by its name where it could be taken for markup.
@@ -127,8 +129,7 @@ fn push_open(out: &mut Vec<u8>, changes: &[Change], x: Cell) -> Result<(), Alloc
 {
     push_span(out, x)?;
     push_mark(out, "<ins data-change='", changes, x.put_in)?;
-    push_mark(out, "<del data-change='", changes, x.struck)?;
-    Ok(())
+    push_mark(out, "<del data-change='", changes, x.struck)
 }
 
 // The tags after a letter.
@@ -157,15 +158,13 @@ fn push_between(out: &mut Vec<u8>, changes: &[Change], x: Cell, y: Cell) -> Resu
     if x.letter == END {
         out.extend_from_slice(close_of(x))?;
         out.extend_from_slice(b"</p><p>")?;
-        push_open(out, changes, y)?;
-        return Ok(());
+        return push_open(out, changes, y);
     }
     if alike(x, y) {
         return Ok(());
     }
     out.extend_from_slice(close_of(x))?;
-    push_open(out, changes, y)?;
-    Ok(())
+    push_open(out, changes, y)
 }
 
 // What follows on a cell.
@@ -198,8 +197,7 @@ pub fn push_cells(out: &mut Vec<u8>, changes: &[Change], cells: &[Cell]) -> Resu
     out.extend_from_slice(b"<p>")?;
     push_open(out, changes, *first)?;
     push_letter(out, first.letter)?;
-    push_following(out, changes, *first, more)?;
-    Ok(())
+    push_following(out, changes, *first, more)
 }
 
 // Whatever letters are written, a reader of the page sees just these.

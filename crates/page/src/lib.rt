@@ -1,5 +1,6 @@
 // The page of a paper: everything with its marks, the paper as if all open changes were accepted and as if all were rejected, and the changes.
-// Appended by functions and no `Display`, as in `markup`.
+// Appended by functions and no `Display`, as in `markup`; `out` and `changes` stay parameters, and `Ok(())` ends a function, as there.
+// The legend, the table and their rows have no letters of the paper: a `Display` of each would be a struct of the changes with the same loop inside, no plainer.
 #![tactic(auto)]
 
 ghost use Rattle.model.specs.Values.{change_of, way_number};
@@ -204,8 +205,7 @@ fn push_parts(
         b"As if all open changes were rejected",
         changes,
         rejected.as_slice(),
-    )?;
-    Ok(())
+    )
 }
 
 // The list of changes, and the end of the page.
@@ -218,6 +218,7 @@ fn push_table(out: &mut Vec<u8>, changes: &[Change]) -> Result<(), AllocError>
     Ok(())
 }
 
+// The changes and the cells apart, here and in `push_parts`, as the definitions `page_with` and `parts` take them.
 fn push_page(
     out: &mut Vec<u8>,
     heap: Global,
@@ -229,15 +230,14 @@ fn push_page(
     out.extend_from_slice(head_of())?;
     push_legend(out, changes)?;
     push_parts(out, heap, changes, cells)?;
-    push_table(out, changes)?;
-    Ok(())
+    push_table(out, changes)
 }
 
+// A paper as its changes and cells: the one place that knows how a paper keeps them.
 fn push_paper(out: &mut Vec<u8>, heap: Global, paper: &Paper) -> Result<(), AllocError>
     ensures { OnOk result (out.new.items ≡ out.old.items ++ page_of (paper_of paper.now)) }
 {
-    push_page(out, heap, paper.changes.as_slice(), paper.cells.as_slice())?;
-    Ok(())
+    push_page(out, heap, paper.changes.as_slice(), paper.cells.as_slice())
 }
 
 // What the program writes of a text when it is asked for a page.

@@ -11,6 +11,7 @@ use std::alloc::{AllocError, Global};
 use text::push_number;
 
 // The sentence that says which number is missing or does not fit.
+// It ends in `Ok(())`, as a vector's own methods say what they append in both outcomes, where our contracts speak of success only.
 pub fn refuse(out: &mut Vec<u8>, place: usize) -> Result<(), AllocError>
     requires { place ≤ 8449 }
     ensures { OnOk result (out.new.items ≡ out.old.items ++ refusal place) }
@@ -27,8 +28,7 @@ fn push_ways(out: &mut Vec<u8>, heap: Global, cells: &[Cell]) -> Result<(), Allo
 {
     push_way(out, heap, cells, Way::Everything)?;
     push_way(out, heap, cells, Way::Accepted)?;
-    push_way(out, heap, cells, Way::Rejected)?;
-    Ok(())
+    push_way(out, heap, cells, Way::Rejected)
 }
 
 // What the program prints of a text.

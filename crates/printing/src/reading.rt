@@ -9,13 +9,12 @@ ghost use Rattle.printing.specs.Values.{NumbersAre, Reads, Widens, cell_of, cell
 use file::Counts;
 use model::Change;
 use std::alloc::{AllocError, Global};
-use std::error::Error;
-use std::fmt;
 
 // The most numbers that the file of a paper has: how many changes, 128 changes and 2,048 cells.
 const NUMBERS: usize = 8449;
 
 // A cell as in `model`, whose letter is a byte: a type of its own, so that whoever prints a letter need not be told that it fits one.
+// Its marks are numbers as in `model`, where 0 is none: a file has them so, and so they are printed.
 #[derive(Clone, Copy, Debug, PartialEq, Eq, Hash)]
 pub struct Cell {
     pub letter: u8,
@@ -43,27 +42,12 @@ pub struct Paper {
     pub cells: Vec<Cell>,
 }
 
-// Why no paper was read: the number at which a text ceases to be one's file, counted from 0, or no memory.
+// Why no paper was read: the number at which a text ceases to be one's file, counted from 0, or no memory. No `Display`: who prints it has words of its own.
 #[derive(Clone, Copy, Debug, PartialEq, Eq, Hash)]
 pub enum ReadError {
     Ceases(usize),
     Memory,
 }
-
-impl fmt::Display for ReadError {
-    fn fmt<W: fmt::Write>(&self, f: &mut fmt::Formatter<W>) -> fmt::Result {
-        match self {
-            ReadError::Ceases(place) => write!(
-                f,
-                "not a paper from number {} on, counted from 0",
-                place
-            ),
-            ReadError::Memory => write!(f, "out of memory"),
-        }
-    }
-}
-
-impl Error for ReadError {}
 
 impl From<AllocError> for ReadError {
     ghost from_gives = { λ _ e. e ≡ Memory };
@@ -88,7 +72,7 @@ fn numbers_of(text: &[u8], room: &mut [u32]) -> Result<Counts, usize>
     }
 }
 
-// The changes of a file.
+// The changes of a file. An index in the chain: a file is read by the numbers of its changes and cells, and what `file` promises of each is all that is told of them.
 fn read_changes(heap: Global, numbers: &[u32], counts: Counts) -> Result<Vec<Change>, AllocError>
     requires { IsFile numbers.now counts.changes counts.cells }
     ensures { IfOk result (λ v. map change_of v.items ≡ (paper_of numbers.now counts.changes counts.cells).changes) }
@@ -119,7 +103,7 @@ fn read_cell(numbers: &[u32], counts: Counts, k: usize) -> Cell
     narrow(file::cell(numbers, counts, k))
 }
 
-// The cells of a file.
+// The cells of a file, by their numbers too: an iterator over words would need again what `file` says of the limits of a letter.
 fn read_cells(heap: Global, numbers: &[u32], counts: Counts) -> Result<Vec<Cell>, AllocError>
     requires { IsFile numbers.now counts.changes counts.cells }
     ensures { IfOk result (λ v. cells_of v.items ≡ (paper_of numbers.now counts.changes counts.cells).cells) }

@@ -20,7 +20,7 @@ const END: u8 = 10;
 
 const SPACE: u8 = 32;
 
-// A row has so many letters, and so many after it are not set.
+// A row has so many letters, and so many after it are not set: 1 or none, as a number, since it is added to find the next row.
 #[derive(Clone, Copy, Debug, PartialEq, Eq, Hash)]
 struct Cut {
     long: usize,
@@ -92,12 +92,10 @@ fn push_rows(out: &mut Vec<u8>, cells: &[Cell]) -> Result<(), AllocError>
 {
     // No iterator over the rows: where one begins is told by the one before it.
     let mut rest = cells;
-    while rest.len() > 0 {
+    while !rest.is_empty() {
         let row = first_row(rest);
-        let long = row.long;
-        let next = row.long + row.skips;
-        push_row(out, &rest[..long])?;
-        rest = &rest[next..];
+        push_row(out, &rest[..row.long])?;
+        rest = &rest[row.long + row.skips..];
     }
     Ok(())
 }
@@ -119,6 +117,5 @@ pub fn push_way(out: &mut Vec<u8>, heap: Global, cells: &[Cell], way: Way) -> Re
     let seen = view(heap, cells, way)?;
     out.extend_from_slice(title_of(way))?;
     out.push(END)?;
-    push_rows(out, seen.as_slice())?;
-    Ok(())
+    push_rows(out, seen.as_slice())
 }

@@ -1,7 +1,7 @@
 use Rattle.std.proofs.Common.{◌++◌, map, vec_items, codes, ap, ◌∙◌}
 use Rattle.model.specs.Values.{change_of}
 use Rattle.printing.specs.Values.{cell_of, cells_of}
-use Rattle.printing.proofs.Joins.{join4, same}
+use Rattle.printing.proofs.Joins.{at_end, join4, same}
 use Rattle.markup.specs.Plain.{escaped}
 use Rattle.markup.specs.Marked.{opened, following}
 use Rattle.markup.proofs.Writes.{no_cells, some_cells}
@@ -14,9 +14,10 @@ pub returns : goal.returns
 returns c =
     let cs = map change_of c.args.changes.now in
     let x = c.in-Some.first.now in
+    at_end c.push_following.result c.push_following.ensures (λ e.
     join4 (vec_items c.args.out.now)
     (same (codes "<p>")) c.in_ok-extend_from_slice.ensures.items
     (same (opened cs (cell_of x))) c.in_ok-push_open.ensures
     (same (escaped x.letter)) c.in_ok-push_letter.ensures
-    (same (following cs (cell_of x) (cells_of c.in-Some.more.now))) c.in_ok-push_following.ensures
-    ∙ ap (λ ls. vec_items c.args.out.now ++ ls) (some_cells cs c.args.cells.now c.in-Some.more.now x c.in-Some.ensures.cases.0)
+    (same (following cs (cell_of x) (cells_of c.in-Some.more.now))) e
+    ∙ ap (λ ls. vec_items c.args.out.now ++ ls) (some_cells cs c.args.cells.now c.in-Some.more.now x c.in-Some.ensures.cases.0))
