@@ -1,6 +1,5 @@
 -- What comes of a text, cell by cell.
-use Rattle.std.proofs.Common.{◌≡◌, ℕ, ◌+◌, ◌<◌, List, [], ◌∷◌, length, Option, refl, sym, ap, ◌∙◌, subst, arith}
-use Rattle.std.specs.Iterator.{Yields, Drains}
+use Rattle.std.proofs.Common.{◌≡◌, ℕ, ◌<◌, [], ◌∷◌, Option, refl, sym, ap, ◌∙◌, subst, arith}
 use Rattle.model.specs.Values.{cell_of}
 use Rattle.model.specs.declared.Cell.{Cell}
 use Rattle.tree.specs.declared.Spot.{Spot}
@@ -9,26 +8,13 @@ use Rattle.layout.specs.declared.seen.Seen.{Seen}
 use Rattle.layout.specs.declared.sheet.Row.{Row}
 use Rattle.layout.specs.declared.sheet.Sheet.{Sheet}
 use Rattle.layout.specs.Found.{ahead, Within}
-use Rattle.layout.specs.Seen.{still, seen_from, behind, GivesCell, Gives}
+use Rattle.layout.specs.Seen.{still, seen_from, behind, GivesCell}
 use Rattle.layout.proofs.Found.{Sought, Reaches}
 
 pub gives_more : (s : Seen) (at : Spot) (x : Cell) (t : Seen) → GivesCell s at x t → still s ≡ cell_of x ∷ still t
 gives_more s at x t g =
     let e : seen_from s (behind at) ≡ still t = rw (g.text, g.way, g.spot) refl in
     g.stands.first ∙ ap (λ ys. cell_of x ∷ ys) e
-
-run_length : (s : Seen) (xs : List (Spot × Cell)) (t : Seen) → Yields Gives s xs t → length (still s) ≡ length xs + length (still t)
-run_length s [] t e = rw e (omega arith)
-run_length s (i ∷ xs) t y =
-    let e = ap length (gives_more s i.0 i.1 y.0 y.1) in
-    let h = run_length y.0 xs t y.2 in
-    omega arith
-
-pub drains_length : (s : Seen) (xs : List (Spot × Cell)) → Drains Gives s xs → length xs ≡ length (still s)
-drains_length s xs d =
-    let h = run_length s xs d.1.0 d.1.1 in
-    let e = ap length d.1.2.0 in
-    omega arith
 
 -- the same for a sheet whose text is looked at in that way
 module _ (s : Sheet) (i : Seen) (text : i.text ≡ s.text) (way : i.way ≡ s.way) where

@@ -1,5 +1,5 @@
 -- From what a scan found to the row.
-use Rattle.std.proofs.Common.{◌≡◌, ℕ, suc, ◌+◌, ◌<◌, ◌≤◌, eqb, ◌⊎◌, List, [], ◌∷◌, length, is_some, true, Some, None, Option, unwrap_or, sym, refl, ap, ◌∙◌, subst, inl, inr, arith}
+use Rattle.std.proofs.Common.{◌≡◌, ℕ, suc, ◌+◌, ◌-◌, ◌<◌, ◌≤◌, eqb, ◌⊎◌, List, [], ◌∷◌, length, is_some, true, Some, None, Option, unwrap_or, sym, refl, ap, ◌∙◌, subst, inl, inr, arith}
 use Rattle.std.proofs.lemmas.Bool.{eq-eqb, ne_eqb}
 use Rattle.model.specs.Paper.{pick, Cell}
 use Rattle.model.specs.Rows.{Cut, cut, cut_after}
@@ -23,6 +23,11 @@ SpaceRow s t (Some r) = GoesOn s t (suc r.long) r
 pub record Sought (s : Sheet) (t : Spot) (now : List Cell) (long : ℕ) (space : Option Row) : Type 0 where
   pub scan : Scan s.width (ahead s t) now long (spaced space)
   pub row : SpaceRow s t space
+
+pub sought_start : (s : Sheet) (t : Spot) (now : List Cell) → now ≡ ahead s t → Sought s t now 0 None
+sought_start s t now e =
+    let z : suc s.width - 0 ≡ suc s.width = omega arith in
+    record { scan = record { fits = omega arith; within = omega arith; rest = sym e; end = rw (e, z) refl; space = rw (e, z) refl }; row = tt }
 
 -- a row by its cut
 found : (s : Sheet) (t : Spot) (r : Row) (k : ℕ) → cut s.width (ahead s t) ≡ record { long = r.long; skips = k } → 0 < length (ahead s t)

@@ -1,4 +1,5 @@
 mod Bits
+mod Counts
 mod Spans
 pub mod Spots
 mod Scan

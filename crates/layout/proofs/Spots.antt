@@ -1,10 +1,12 @@
 -- A walk over what is left of a text, from spot to spot.
-use Rattle.std.proofs.Common.{◌≡◌, ℕ, zero, suc, ◌+◌, ◌*◌, ◌<◌, ◌≤◌, true, false, List, [], ◌∷◌, length, get_or, drop, sym, refl, ap, ◌∙◌, arith}
+use Rattle.std.proofs.Common.{◌≡◌, ℕ, zero, suc, ◌+◌, ◌-◌, ◌*◌, ◌<◌, ◌≤◌, true, false, List, [], ◌∷◌, length, get_or, drop, sym, refl, ap, ◌∙◌, arith}
 use Rattle.std.proofs.lemmas.List.{drop_all, length-drop}
 use Rattle.model.specs.Paper.{pick, Cell, seen, view}
 use Rattle.model.proofs.Rows.{by_test}
 use Rattle.pieces.specs.Store.{used, cells_of, before, no_cell, Order}
 use Rattle.pieces.proofs.Texts.{length_text, drop_text_more, drop_text_next, text_at}
+use Rattle.slots.specs.Cells.{cell_at, cells_at}
+use Rattle.slots.proofs.Words.{length_cells}
 use Rattle.layout.specs.Spots.{left}
 
 view_none : (way : ℕ) → view way [] ≡ []
@@ -37,6 +39,19 @@ module _ (c p : List ℕ) (s way k j : ℕ) (x : Cell) (here : k < s) (within : 
 
   pub left_unseen : false ≡ seen way x → left c p s way k j ≡ left c p s way k (j + 1)
   left_unseen e = step ∙ rw (sym e)
+
+-- the first of the m cells from number n on, and the others
+pub first_of : (c : List ℕ) (n m : ℕ) (x : Cell) (ys : List Cell) → cells_at c n m ≡ x ∷ ys → (0 < m) × (cell_at c n ≡ x) × ((k j : ℕ) → k ≡ n + 1 → j ≡ m - 1 → ys ≡ cells_at c k j)
+unfolding cells_at
+first_of c n zero x ys e = absurd (let l = ap length e in omega arith)
+first_of c n (suc m) x ys e =
+    (omega arith, cc, λ k j f g. let h : k ≡ suc n = omega arith in let i : j ≡ m = omega arith in rw (h, i) (cc))
+
+pub none_of : (c : List ℕ) (n m : ℕ) → cells_at c n m ≡ [] → m ≡ 0
+none_of c n m e =
+    let l = length_cells c n m in
+    let z = ap length e in
+    omega arith
 
 -- from the end of a piece to the next
 pub left_next : (c p : List ℕ) (s way k j : ℕ) → j ≡ used p k → left c p s way (k + 1) 0 ≡ left c p s way k j

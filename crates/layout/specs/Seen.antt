@@ -4,9 +4,10 @@ use Rattle.model.specs.Paper as paper
 use Rattle.model.specs.Values.{cell_of, way_number}
 use Rattle.model.specs.declared.Cell.{Cell}
 use Rattle.pieces.specs.Store.{used}
+use Rattle.slots.specs.declared.Cells.{Cells}
 use Rattle.tree.specs.declared.Spot.{Spot}
 use Rattle.layout.specs.declared.seen.Seen.{Seen}
-use Rattle.layout.specs.Spots.{left}
+use Rattle.layout.specs.Spots.{left, Rests}
 
 -- the cells that are seen from a spot on
 abbrev pub seen_from : Seen → Spot → List paper.Cell
@@ -27,9 +28,9 @@ pub record Stands (s : Seen) (at : Spot) (x : Cell) : Type 0 where
   pub same : seen_from s at ≡ still s
   pub first : still s ≡ cell_of x ∷ seen_from s (behind at)
 
-abbrev pub FirstSeen : Seen → Option (Spot × Cell) → Type 0
+abbrev pub FirstSeen : Seen → Option (Spot × Cell × Cells) → Type 0
 FirstSeen s None = still s ≡ []
-FirstSeen s (Some (at, x)) = Stands s at x
+FirstSeen s (Some (at, x, rest)) = Stands s at x × Rests s.text (behind at) rest.words.now
 
 -- the first cell is given, and what comes after it is what is seen from the spot behind it on
 pub record GivesCell (s : Seen) (at : Spot) (x : Cell) (t : Seen) : Type 0 where

@@ -5,7 +5,7 @@ ghost use Rattle.std.specs.Prelude.{◌≡◌, ℕ, ◌+◌, ◌/◌, ◌%◌, �
 ghost use Rattle.model.specs.Paper.{pick, seen, view};
 ghost use Rattle.model.specs.Rows.{rows};
 ghost use Rattle.model.specs.Values.{cell_of, way_number};
-ghost use Rattle.pieces.specs.Store.{used, before, no_cell};
+ghost use Rattle.pieces.specs.Store.{used, before, no_cell, piece};
 ghost use Rattle.pieces.specs.Text.{cells_in};
 ghost use Rattle.layout.specs.Shown.{Shown};
 
@@ -42,12 +42,27 @@ pub fn seen_bits(text: &Text, k: usize, from: usize, way: Way) -> u32
     bits
 }
 
+// How many cells of piece `k` are seen.
+fn count_piece(text: &Text, k: usize, way: Way) -> usize
+    requires { k < text.now.slots }
+    ensures cells { result ≡ length (view (way_number way) (piece text.now.cells.now text.now.tables.now k)) }
+    ensures few { result ≤ 1024 }
+{
+    let words = slots::part(text.cells, text.number_of(k, 0), text.used(k));
+    (slots::Cells { words }).filter(|x| way.sees(*x)).count()
+}
+
 // How many cells are seen.
 pub fn count(text: &Text, way: Way) -> usize
     ensures cells { result ≡ length (view (way_number way) (cells_in text.now)) }
     ensures few { result ≤ 2097152 }
 {
-    Seen::all(text, way).count()
+    let mut count = 0;
+    // An index, as the order of the slots is lent memory.
+    for k in 0..text.slots {
+        count += count_piece(text, k, way);
+    }
+    count
 }
 
 // Writes `n` rows from row number `first` on as an answer, and says how many bytes it has; or nothing, where these rows are not there.

@@ -1,9 +1,10 @@
 // The cells that are seen of a text, in their order, from a spot on.
 ghost use Rattle.std.proofs.Props.{props};
-ghost use Rattle.layout.specs.Spots.{Inside};
+ghost use Rattle.layout.specs.Spots.{Inside, Rests};
 
 use model::{Cell, Way};
 use pieces::{Spot, Text};
+use slots::Cells;
 
 /// What is seen of a text from a spot on. Each cell comes with the spot at which it stands.
 /// No `PartialEq` and no `Hash`, as `Text` has none.
@@ -12,7 +13,25 @@ pub struct Seen<'a> {
     text: Text<'a>,
     way: Way,
     spot: Spot,
+    // What is left of the spot's piece.
+    rest: Cells<'a>,
     ghost inside: { Inside text.tables.now text.slots spot.piece spot.offset } by { Prim.hlevel props },
+    ghost rests: { Rests text spot rest.words.now } by { Prim.hlevel props },
+}
+
+// What is left of a spot's piece; nothing behind the last piece.
+fn rest_of<'a>(text: &Text<'a>, spot: Spot) -> Cells<'a>
+    requires { Inside text.now.tables.now text.now.slots spot.piece spot.offset }
+    ensures { Rests text.now spot result.words.now }
+{
+    if spot.piece == text.slots {
+        return Cells { words: &[] };
+    }
+    let number = text.number_of(spot.piece, spot.offset);
+    let n = text.used(spot.piece) - spot.offset;
+    Cells {
+        words: slots::part(text.cells, number, n),
+    }
 }
 
 impl<'a> Seen<'a> {
@@ -45,29 +64,30 @@ impl<'a> Seen<'a> {
             text: *text,
             way,
             spot,
+            rest: rest_of(text, spot),
         }
     }
 
-    /// The first cell that is to come, and where it stands.
-    fn first(&self) -> Option<(Spot, Cell)>
+    /// The first cell that is to come, where it stands, and what is left of its piece behind it.
+    fn first(&self) -> Option<(Spot, Cell, Cells<'a>)>
         ensures { FirstSeen self.now result }
     {
-        let mut start = self.spot.offset;
-        // By numbers, as a text gives a cell by those of its piece and its place there.
-        for k in self.spot.piece..self.text.slots {
-            for j in start..self.text.used(k) {
-                let x = self.text.cell(k, j);
+        let mut offset = self.spot.offset;
+        let mut rest = self.rest;
+        // By its number, as the order of the pieces is lent memory.
+        for piece in self.spot.piece..self.text.slots {
+            while let Some(x) = rest.next() {
                 if self.way.sees(x) {
-                    return Some((
-                        Spot {
-                            piece: k,
-                            offset: j,
-                        },
-                        x,
-                    ));
+                    return Some((Spot { piece, offset }, x, rest));
                 }
+                offset += 1;
             }
-            start = 0;
+            let next = Spot {
+                piece: piece + 1,
+                offset: 0,
+            };
+            offset = 0;
+            rest = rest_of(&self.text, next);
         }
         None
     }
@@ -84,10 +104,16 @@ impl<'a> Iterator for Seen<'a> {
     ghost remaining = { item_count still };
 
     fn next(&mut self) -> Option<(Spot, Cell)> {
-        let (at, cell) = self.first()?;
-        self.spot = Spot {
+        let (at, cell, rest) = self.first()?;
+        let spot = Spot {
             piece: at.piece,
             offset: at.offset + 1,
+        };
+        *self = Seen {
+            text: self.text,
+            way: self.way,
+            spot,
+            rest,
         };
         Some((at, cell))
     }

@@ -1,6 +1,6 @@
-use Rattle.std.proofs.Common.{◌∙◌, inl, inr, refl, arith}
+use Rattle.std.proofs.Common.{ap, ◌∙◌, inl, inr, refl, arith}
 use Rattle.layout.proofs.Spots.{left_end}
-use Rattle.layout.proofs.Found.{sought_end, sought_more, sought_full, sought_all}
+use Rattle.layout.proofs.Found.{sought_start, sought_end, sought_more, sought_full, sought_all}
 use Rattle.layout.proofs.Comes.{reaches, sought_at, sought_end_of_text}
 use Rattle.layout.proofs.sheet.Sheet.row_from.Goals as goal
 use Rattle.layout.proofs.sheet.Sheet.row_from.Goals.{then-x-eq-SPACE, else-x-eq-SPACE}
@@ -44,3 +44,9 @@ returns c =
     let i = c.loop-at.invariant in
     sought_all c.args.self.now _ _ _ (sought_end_of_text c.args.self.now c.loop-at.at-iterator _ _ _ c.in-None.ensures.steps.0 i.4) c.if-long-eq0.false _
     (record { piece = omega arith; offset = omega arith }) (left_end _ _ _ _ _ _ refl)
+
+pub loop-at-init : goal.loop-at-init
+loop-at-init c =
+    let n = c.new-at-items.ensures in
+    let e = c.into_iter-at-iterator.ensures.into_iter_gives in
+    (tt, tt, ap (λ i. i.text) e ∙ n.text, ap (λ i. i.way) e ∙ n.way, sought_start _ _ _ (rw (e, n.text, n.way, n.spot) refl))
