@@ -18,7 +18,7 @@ pub fn prepare(letters: &[u8], table: &mut [u32])
     let mut k = 0;
     // An index, as each step reads the entries before the one that it fills.
     for i in 1..letters.len() {
-        k = step(letters, table, k, letters[i] as u32);
+        k = step(letters, table, k, u32::from(letters[i]));
         table[i] = k as u32;
     }
 }
@@ -32,7 +32,7 @@ pub fn step(letters: &[u8], table: &[u32], matched: usize, letter: u32) -> usize
 {
     let mut k = matched;
     // From border to border: the table says where to go, and nothing is counted.
-    while letters[k] as u32 != letter {
+    while u32::from(letters[k]) != letter {
         if k == 0 {
             return 0;
         }
@@ -64,7 +64,7 @@ mod tests {
         prepare(letters, &mut table);
         let mut k = 0;
         for (i, letter) in text.iter().enumerate() {
-            k = step(letters, &table, k, *letter as u32);
+            k = step(letters, &table, k, u32::from(*letter));
             if k == letters.len() {
                 return i + 1 - k;
             }
