@@ -7,10 +7,9 @@ use Rattle.printing.specs.declared.reading.Cell.{Cell}
 use Rattle.printing.specs.declared.reading.Paper.{Paper}
 use Rattle.printing.specs.declared.reading.ReadError.{ReadError}
 use Rattle.printing.specs.declared.reading.ReadError.TheVariants.{Ceases, Memory}
-use Rattle.file.specs.declared.Counts.{Counts}
 use Rattle.model.specs.Rows as rows
 use Rattle.printing.specs.declared.rows.Cut.{Cut}
-use Rattle.printing.specs.Reading.{Says, Holds, CeasesAt}
+use Rattle.printing.specs.Reading.{Says, CeasesAt}
 
 abbrev pub cell_of : Cell → paper.Cell
 cell_of x = record { letter = x.letter; style = x.style; put_in = x.put_in; struck = x.struck }
@@ -30,11 +29,6 @@ abbrev pub Reads : List ℕ → Result Paper ReadError → Type 0
 Reads text (Ok p) = Says text (paper_of p)
 Reads text (Err (Ceases i)) = CeasesAt text i
 Reads text (Err Memory) = ⊤
-
--- the numbers of a text stand at the front of ns, or it ceases to be a file
-abbrev pub NumbersAre : List ℕ → List ℕ → Result Counts ℕ → Type 0
-NumbersAre text ns (Ok c) = Holds text ns c.changes c.cells
-NumbersAre text ns (Err i) = CeasesAt text i
 
 -- one more than a place, or 0
 abbrev pub after_place : Option ℕ → ℕ
