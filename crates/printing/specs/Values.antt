@@ -1,5 +1,6 @@
 -- The model's value for each struct of the code.
-use Rattle.std.specs.Prelude.{◌≡◌, ℕ, suc, ◌+◌, ◌<◌, ◌≤◌, List, map, length, Some, None, Ok, Err, vec_items, Option, Result, ⊤}
+use Rattle.std.specs.Prelude.{◌≡◌, ℕ, suc, ◌+◌, ◌<◌, ◌≤◌, List, ◌++◌, map, length, Some, None, Ok, Err, OnOk, vec_items, Option, Result, Vec, ⊤}
+use Rattle.std.specs.Borrow.{Bor, MutBor}
 use Rattle.model.specs.Paper as paper
 use Rattle.model.specs.Values as model
 use Rattle.model.specs.declared.Cell as code
@@ -23,6 +24,11 @@ cells_of xs = map cell_of xs
 
 abbrev pub paper_of : Paper → paper.Paper
 paper_of p = record { cells = cells_of (vec_items p.cells); changes = map model.change_of (vec_items p.changes) }
+
+-- A call that gives r and leaves `left` appends, where there was memory, what `shown` is of the paper that it was given.
+abbrev pub Appends : {A X E : Type 0} → (MutBor (Vec ℕ A) → Bor Paper → Result X E → MutBor (Vec ℕ A) → Type 0) → (paper.Paper → List ℕ) → Type 0
+Appends {A} {X} {E} call shown =
+    (out left : MutBor (Vec ℕ A)) (p : Bor Paper) (r : Result X E) → call out p r left → OnOk r (vec_items left.now ≡ vec_items out.now ++ shown (paper_of p.now))
 
 -- what was read of a text, where there was memory
 abbrev pub Reads : List ℕ → Result Paper ReadError → Type 0
