@@ -2,3 +2,4 @@ pub mod Paper
 pub mod Places
 pub mod Laws
 pub mod Words
+pub mod File

@@ -3,7 +3,7 @@
 
 ghost use Rattle.std.specs.Prelude.{◌≡◌, ◌+◌, ◌-◌, ◌*◌, ◌<◌, length, Ok, Err, MatchBool, MatchOption, MatchResult, slice_index, slice_index_or};
 ghost use Rattle.file.specs.Laws.{OneWay, ReadsBack, WordsAre};
-ghost use Rattle.file.specs.Paper.{Ceases, IsFile, paper_of};
+ghost use Rattle.file.specs.Paper.{Ceases, IsFile};
 ghost use Rattle.file.specs.Places.{MarkFits, NumberFits, last};
 ghost use Rattle.file.specs.Words.{AllRead, Digit, Stops, WordFits, value, white};
 ghost use Rattle.model.specs.Paper.{Cell as PaperCell, Change as PaperChange};
@@ -15,13 +15,6 @@ use model::{Cell, Change};
 const MAX_CHANGES: u32 = 128;
 
 const MAX_CELLS: usize = 2048;
-
-// How many changes and cells a paper has.
-#[derive(Clone, Copy, Debug, PartialEq, Eq, Hash)]
-pub struct Counts {
-    pub changes: usize,
-    pub cells: usize,
-}
 
 // Space, newline, carriage return, tab: without the form feed of `is_ascii_whitespace`.
 fn is_white(c: u8) -> bool
@@ -101,42 +94,56 @@ fn number_fits(numbers: &[u32], i: usize) -> bool
         }
 }
 
-// Whether some numbers are the file of a paper that fits: how many changes and cells it has, or the place of the first number that does not fit.
-// Where the numbers stop too early, that is how many there are.
-pub fn read(numbers: &[u32]) -> Result<Counts, usize>
-    ensures { MatchResult result (λ c. IsFile numbers.now c.changes c.cells) (Ceases numbers.now) }
-{
-    // An index in the chain: whether a number fits depends on its place, and the place is the answer.
-    if let Some(i) = (0..numbers.len()).find(|i| !number_fits(numbers, *i)) {
-        return Err(i);
-    }
-    let Some((changes, rest)) = numbers.split_first() else {
-        return Err(0);
-    };
-    let changes = *changes as usize;
-    if rest.len() < 2 * changes || (rest.len() - 2 * changes) % 4 > 0 {
-        return Err(numbers.len());
-    }
-    Ok(Counts {
-        changes,
-        cells: (rest.len() - 2 * changes) / 4,
-    })
+/// The numbers of the file of a paper that fits, and how many changes and cells the paper has.
+#[derive(Clone, Copy, Debug, PartialEq, Eq, Hash)]
+pub struct File<'a> {
+    pub numbers: &'a [u32],
+    pub changes: usize,
+    pub cells: usize,
+    ghost fits: { IsFile numbers.now changes cells },
 }
 
-// Change number k of a file. `counts` are for the contracts: numbers are the file of a paper of so many changes and cells.
-pub fn change(numbers: &[u32], counts: Counts, k: usize) -> Change
-    requires { (k < counts.changes) × (IsFile numbers.now counts.changes counts.cells) }
-    ensures { (d : PaperChange) → slice_index_or (paper_of numbers.now counts.changes counts.cells).changes k d ≡ change_of result }
-{
-    changes::read(&numbers[1..], k)
-}
+impl<'a> File<'a> {
+    ghost use Rattle.file.specs.File.{paper_in};
 
-// Cell number k of a file.
-pub fn cell(numbers: &[u32], counts: Counts, k: usize) -> Cell
-    requires { (k < counts.cells) × (IsFile numbers.now counts.changes counts.cells) }
-    ensures { (d : PaperCell) → slice_index_or (paper_of numbers.now counts.changes counts.cells).cells k d ≡ cell_of result }
-{
-    slots::read(&numbers[1 + 2 * counts.changes..], k)
+    /// Reads the file that some numbers are, or says at which place they cease to be one: the place of the first number that does not fit.
+    /// Where the numbers stop too early, that is how many there are.
+    pub fn read(numbers: &'a [u32]) -> Result<File<'a>, usize>
+        ensures { MatchResult result (λ f. f.numbers.now ≡ numbers.now) (Ceases numbers.now) }
+    {
+        // An index in the chain: whether a number fits depends on its place, and the place is the answer.
+        if let Some(i) = (0..numbers.len()).find(|i| !number_fits(numbers, *i)) {
+            return Err(i);
+        }
+        let Some((changes, rest)) = numbers.split_first() else {
+            return Err(0);
+        };
+        let changes = *changes as usize;
+        if rest.len() < 2 * changes || (rest.len() - 2 * changes) % 4 > 0 {
+            return Err(numbers.len());
+        }
+        Ok(File {
+            numbers,
+            changes,
+            cells: (rest.len() - 2 * changes) / 4,
+        })
+    }
+
+    /// Change number `k`.
+    pub fn change(&self, k: usize) -> Change
+        requires { k < self.now.changes }
+        ensures { (d : PaperChange) → slice_index_or (paper_in self.now).changes k d ≡ change_of result }
+    {
+        changes::read(&self.numbers[1..], k)
+    }
+
+    /// Cell number `k`.
+    pub fn cell(&self, k: usize) -> Cell
+        requires { k < self.now.cells }
+        ensures { (d : PaperCell) → slice_index_or (paper_in self.now).cells k d ≡ cell_of result }
+    {
+        slots::read(&self.numbers[1 + 2 * self.changes..], k)
+    }
 }
 
 // White space parts the words of a text.
@@ -166,7 +173,7 @@ mod tests {
             Ok(n) => n,
             Err(k) => return Some(k),
         };
-        match read(&room[0..n]) {
+        match File::read(&room[0..n]) {
             Ok(_) => None,
             Err(i) => Some(i),
         }

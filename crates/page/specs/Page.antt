@@ -1,8 +1,7 @@
 -- The page of a paper, byte by byte. Definitions only: nothing is assumed.
-use Rattle.std.specs.Prelude.{◌≡◌, ℕ, zero, suc, Bool, false, ◌||◌, ◌⊎◌, List, [], ◌∷◌, ◌++◌, map, codes, decimal, ◌==◌}
+use Rattle.std.specs.Prelude.{ℕ, zero, suc, Bool, false, ◌||◌, List, [], ◌∷◌, ◌++◌, map, codes, decimal, ◌==◌}
 use Rattle.model.specs.Paper.{pick, Cell, Change, Paper, view}
-use Rattle.printing.specs.Reading.{Says, EndsAt}
-use Rattle.printing.specs.Printed.{refusal}
+use Rattle.printing.specs.Printed.{Written}
 use Rattle.markup.specs.Marked.{colour, marked}
 
 -- lines, each of which ends with byte 10
@@ -108,4 +107,4 @@ page_of p = page_with p.changes p.cells
 
 -- what the program writes of a text when it is asked for a page
 abbrev pub Paged : List ℕ → List ℕ → Type 0
-Paged text out = ((p : Paper) × Says text p × (out ≡ page_of p)) ⊎ ((i : ℕ) × EndsAt text i × (out ≡ refusal i))
+Paged text out = Written page_of text out

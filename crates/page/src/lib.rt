@@ -4,13 +4,13 @@
 #![tactic(auto)]
 
 ghost use Rattle.model.specs.Values.{change_of, way_number};
-ghost use Rattle.page.specs.Page.{Paged, as_if, author_item, authors_from, bare as bare_cell, became as became_shown, change_row, change_rows, foot, has_author, head, key, legend, page_of, page_with, part, parts, table, table_head};
-ghost use Rattle.printing.specs.Values.{cells_of, paper_of};
+ghost use Rattle.page.specs.Page.{Paged, as_if, author_item, authors_from, bare as bare_cell, became as became_shown, change_row, change_rows, foot, has_author, head, key, legend, page_with, part, parts, table, table_head};
+ghost use Rattle.printing.specs.Values.{cells_of};
 ghost use Rattle.std.specs.Prelude.{◌≡◌, ◌++◌, map, IfOk, OnOk};
 
 use markup::{Colour, push_cells};
 use model::{Change, Way};
-use printing::{Cell, Paper, ReadError, read_paper, refuse, view};
+use printing::{Cell, print_by, view};
 use std::alloc::{AllocError, Global};
 use std::io::Write;
 
@@ -233,22 +233,11 @@ fn push_page(
     push_table(out, changes)
 }
 
-// A paper as its changes and cells: the one place that knows how a paper keeps them.
-fn push_paper(out: &mut Vec<u8>, heap: Global, paper: &Paper) -> Result<(), AllocError>
-    ensures { OnOk result (out.new.items ≡ out.old.items ++ page_of (paper_of paper.now)) }
-{
-    push_page(out, heap, paper.changes.as_slice(), paper.cells.as_slice())
-}
-
 // What the program writes of a text when it is asked for a page.
 pub fn write_page(heap: Global, text: &[u8]) -> Result<Vec<u8>, AllocError>
     ensures { IfOk result (λ v. Paged text.now v.items) }
 {
-    let mut out = Vec::new(heap);
-    match read_paper(heap, text) {
-        Ok(paper) => push_paper(&mut out, heap, &paper)?,
-        Err(ReadError::Ceases(place)) => refuse(&mut out, place)?,
-        Err(ReadError::Memory) => return Err(AllocError),
-    }
-    Ok(out)
+    print_by(heap, text, |out, paper| {
+        push_page(out, heap, paper.changes.as_slice(), paper.cells.as_slice())
+    })
 }

@@ -26,6 +26,10 @@ paper_printed p = way_printed 0 p.cells ++ (way_printed 1 p.cells ++ way_printed
 abbrev pub refusal : ℕ → List ℕ
 refusal i = codes "Not a paper: number " ++ (decimal (i + 1) ++ (codes " is missing or does not fit." ++ (10 ∷ [])))
 
+-- what is written of a text, where `shown` is what is written of a paper: that of the paper that it says, or the sentence that refuses it
+abbrev pub Written : (Paper → List ℕ) → List ℕ → List ℕ → Type 0
+Written shown text out = ((p : Paper) × Says text p × (out ≡ shown p)) ⊎ ((i : ℕ) × EndsAt text i × (out ≡ refusal i))
+
 -- what the program prints of a text
 abbrev pub Printed : List ℕ → List ℕ → Type 0
-Printed text out = ((p : Paper) × Says text p × (out ≡ paper_printed p)) ⊎ ((i : ℕ) × EndsAt text i × (out ≡ refusal i))
+Printed text out = Written paper_printed text out

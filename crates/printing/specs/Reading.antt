@@ -1,8 +1,8 @@
 -- What a text is: the file of a paper, or where it ceases to be one. Definitions only: nothing is assumed.
-use Rattle.std.specs.Prelude.{◌≡◌, ℕ, ◌+◌, ◌*◌, ◌≤◌, List, map, length, take, ◌≢◌}
+use Rattle.std.specs.Prelude.{◌≡◌, ℕ, ◌+◌, ◌≤◌, List, map, length, take, ◌≢◌}
 use Rattle.std.specs.List.{AllByRecursion}
 use Rattle.model.specs.Paper.{Paper, written}
-use Rattle.file.specs.Paper.{Fits, IsFile}
+use Rattle.file.specs.Paper.{Fits}
 use Rattle.file.specs.Words.{words, value, WordFits}
 
 -- The words of a text are numbers, and these are the file of a paper that fits: of at most 128 changes and 2,048 cells.
@@ -18,17 +18,6 @@ pub record EndsAt (text : List ℕ) (i : ℕ) : Type 0 where
   pub numbers : AllByRecursion WordFits (take i (words text))
   pub begins : (p : Paper) × Fits p × (take i (written p) ≡ take i (map value (words text)))
   pub ends : (p : Paper) → Fits p → AllByRecursion WordFits (take (i + 1) (words text)) → take (i + 1) (written p) ≢ take (i + 1) (map value (words text))
-
--- how many numbers the file of a paper of n changes and m cells has
-abbrev pub size : ℕ → ℕ → ℕ
-size n m = 1 + 2 * n + 4 * m
-
--- the first numbers of ns are the words of a text, and the file of a paper of n changes and m cells
-pub record Holds (text ns : List ℕ) (n m : ℕ) : Type 0 where
-  pub numbers : AllByRecursion WordFits (words text)
-  pub same : map value (words text) ≡ take (size n m) ns
-  pub file : IsFile (take (size n m) ns) n m
-  pub room : size n m ≤ length ns
 
 -- where a text ceases, which is never after more numbers than a paper that fits has
 abbrev pub CeasesAt : List ℕ → ℕ → Type 0

@@ -1,5 +1,6 @@
 -- The model's value for each struct of the code.
-use Rattle.std.specs.Prelude.{◌≡◌, ℕ, suc, ◌+◌, ◌<◌, ◌≤◌, List, map, length, Some, None, Ok, Err, vec_items, Option, Result, ⊤}
+use Rattle.std.specs.Prelude.{◌≡◌, ℕ, suc, ◌+◌, ◌<◌, ◌≤◌, List, ◌++◌, map, length, Some, None, Ok, Err, OnOk, vec_items, Option, Result, Vec, ⊤}
+use Rattle.std.specs.Borrow.{Bor, MutBor}
 use Rattle.model.specs.Paper as paper
 use Rattle.model.specs.Values as model
 use Rattle.model.specs.declared.Cell as code
@@ -7,10 +8,9 @@ use Rattle.printing.specs.declared.reading.Cell.{Cell}
 use Rattle.printing.specs.declared.reading.Paper.{Paper}
 use Rattle.printing.specs.declared.reading.ReadError.{ReadError}
 use Rattle.printing.specs.declared.reading.ReadError.TheVariants.{Ceases, Memory}
-use Rattle.file.specs.declared.Counts.{Counts}
 use Rattle.model.specs.Rows as rows
 use Rattle.printing.specs.declared.rows.Cut.{Cut}
-use Rattle.printing.specs.Reading.{Says, Holds, CeasesAt}
+use Rattle.printing.specs.Reading.{Says, CeasesAt}
 
 abbrev pub cell_of : Cell → paper.Cell
 cell_of x = record { letter = x.letter; style = x.style; put_in = x.put_in; struck = x.struck }
@@ -25,16 +25,16 @@ cells_of xs = map cell_of xs
 abbrev pub paper_of : Paper → paper.Paper
 paper_of p = record { cells = cells_of (vec_items p.cells); changes = map model.change_of (vec_items p.changes) }
 
+-- A call that gives r and leaves `left` appends, where there was memory, what `shown` is of the paper that it was given.
+abbrev pub Appends : {A X E : Type 0} → (MutBor (Vec ℕ A) → Bor Paper → Result X E → MutBor (Vec ℕ A) → Type 0) → (paper.Paper → List ℕ) → Type 0
+Appends {A} {X} {E} call shown =
+    (out left : MutBor (Vec ℕ A)) (p : Bor Paper) (r : Result X E) → call out p r left → OnOk r (vec_items left.now ≡ vec_items out.now ++ shown (paper_of p.now))
+
 -- what was read of a text, where there was memory
 abbrev pub Reads : List ℕ → Result Paper ReadError → Type 0
 Reads text (Ok p) = Says text (paper_of p)
 Reads text (Err (Ceases i)) = CeasesAt text i
 Reads text (Err Memory) = ⊤
-
--- the numbers of a text stand at the front of ns, or it ceases to be a file
-abbrev pub NumbersAre : List ℕ → List ℕ → Result Counts ℕ → Type 0
-NumbersAre text ns (Ok c) = Holds text ns c.changes c.cells
-NumbersAre text ns (Err i) = CeasesAt text i
 
 -- one more than a place, or 0
 abbrev pub after_place : Option ℕ → ℕ

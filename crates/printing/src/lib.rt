@@ -5,6 +5,6 @@ mod printer;
 mod reading;
 mod rows;
 
-pub use printer::{one_output, print, refuse};
+pub use printer::{one_output, print, print_by, refuse};
 pub use reading::{Cell, Paper, ReadError, read_paper};
 pub use rows::view;

@@ -1,12 +1,13 @@
 // A paper from the text of its file.
-ghost use Rattle.std.specs.Prelude.{◌≡◌, ◌≤◌, map, length, ◌<◌, IfOk, slice_index_or};
-ghost use Rattle.file.specs.Paper.{IsFile, paper_of};
+ghost use Rattle.std.specs.Prelude.{◌≡◌, ◌≤◌, map, length, ◌<◌, IfOk, MatchResult, slice_index_or};
+ghost use Rattle.file.specs.File.{paper_in};
 ghost use Rattle.model.specs.Paper.{Cell as PaperCell};
 ghost use Rattle.model.specs.Values.{cell_of as wide_of, change_of};
 ghost use Rattle.printing.specs.declared.reading.ReadError.TheVariants.{Memory};
-ghost use Rattle.printing.specs.Values.{NumbersAre, Reads, Widens, cell_of, cells_of, paper_of as shown_paper};
+ghost use Rattle.printing.specs.Reading.{CeasesAt, Says};
+ghost use Rattle.printing.specs.Values.{Reads, Widens, cell_of, cells_of, paper_of as shown_paper};
 
-use file::Counts;
+use file::File;
 use model::Change;
 use std::alloc::{AllocError, Global};
 
@@ -57,29 +58,24 @@ impl From<AllocError> for ReadError {
     }
 }
 
-// Writes the numbers of a text that is a paper's file, and says how many changes and cells there are. Otherwise it says where the text ceases to be one.
+// The file that a text is, whose numbers are written to lent words, or where the text ceases to be one.
 // A function of its own and no conversion, as it writes to lent words.
-fn numbers_of(text: &[u8], room: &mut [u32]) -> Result<Counts, usize>
+fn file_of<'a>(text: &[u8], room: &'a mut [u32]) -> Result<File<'a>, usize>
     requires { length room.old ≡ 8449 }
-    ensures { NumbersAre text.now room.new result }
+    ensures { MatchResult result (λ f. Says text.now (paper_in f)) (CeasesAt text.now) }
 {
     match file::numbers(text, room) {
-        Ok(n) => file::read(&room[..n]),
-        Err(n) => match file::read(&room[..n]) {
-            Ok(_) => Err(n),
-            Err(i) => Err(i),
-        },
+        Ok(n) => File::read(&room[..n]),
+        // The numbers before the one that was not read may cease to be a file earlier.
+        Err(n) => File::read(&room[..n]).and(Err(n)),
     }
 }
 
-// The changes of a file. An index in the chain: a file is read by the numbers of its changes and cells, and what `file` promises of each is all that is told of them.
-fn read_changes(heap: Global, numbers: &[u32], counts: Counts) -> Result<Vec<Change>, AllocError>
-    requires { IsFile numbers.now counts.changes counts.cells }
-    ensures { IfOk result (λ v. map change_of v.items ≡ (paper_of numbers.now counts.changes counts.cells).changes) }
+// The changes of a file. An index in the chain: what `file` promises is of each change by its number.
+fn read_changes(heap: Global, file: &File) -> Result<Vec<Change>, AllocError>
+    ensures { IfOk result (λ v. map change_of v.items ≡ (paper_in file.now).changes) }
 {
-    (0..counts.changes)
-        .map(|k| file::change(numbers, counts, k))
-        .collect(heap)
+    (0..file.changes).map(|k| file.change(k)).collect(heap)
 }
 
 // A cell whose letter is known to be a byte. No `TryFrom`, as it does not fail.
@@ -96,30 +92,26 @@ fn narrow(cell: model::Cell) -> Cell
 }
 
 // Cell number k of a file.
-fn read_cell(numbers: &[u32], counts: Counts, k: usize) -> Cell
-    requires { (k < counts.cells) × (IsFile numbers.now counts.changes counts.cells) }
-    ensures { (d : PaperCell) → slice_index_or (paper_of numbers.now counts.changes counts.cells).cells k d ≡ cell_of result }
+fn read_cell(file: &File, k: usize) -> Cell
+    requires { k < file.now.cells }
+    ensures { (d : PaperCell) → slice_index_or (paper_in file.now).cells k d ≡ cell_of result }
 {
-    narrow(file::cell(numbers, counts, k))
+    narrow(file.cell(k))
 }
 
 // The cells of a file, by their numbers too: an iterator over words would need again what `file` says of the limits of a letter.
-fn read_cells(heap: Global, numbers: &[u32], counts: Counts) -> Result<Vec<Cell>, AllocError>
-    requires { IsFile numbers.now counts.changes counts.cells }
-    ensures { IfOk result (λ v. cells_of v.items ≡ (paper_of numbers.now counts.changes counts.cells).cells) }
+fn read_cells(heap: Global, file: &File) -> Result<Vec<Cell>, AllocError>
+    ensures { IfOk result (λ v. cells_of v.items ≡ (paper_in file.now).cells) }
 {
-    (0..counts.cells)
-        .map(|k| read_cell(numbers, counts, k))
-        .collect(heap)
+    (0..file.cells).map(|k| read_cell(file, k)).collect(heap)
 }
 
 // The paper of a file.
-fn read_file(heap: Global, numbers: &[u32], counts: Counts) -> Result<Paper, AllocError>
-    requires { IsFile numbers.now counts.changes counts.cells }
-    ensures { IfOk result (λ p. shown_paper p ≡ paper_of numbers.now counts.changes counts.cells) }
+fn read_file(heap: Global, file: &File) -> Result<Paper, AllocError>
+    ensures { IfOk result (λ p. shown_paper p ≡ paper_in file.now) }
 {
-    let changes = read_changes(heap, numbers, counts)?;
-    let cells = read_cells(heap, numbers, counts)?;
+    let changes = read_changes(heap, file)?;
+    let cells = read_cells(heap, file)?;
     Ok(Paper { changes, cells })
 }
 
@@ -129,7 +121,6 @@ pub fn read_paper(heap: Global, text: &[u8]) -> Result<Paper, ReadError>
 {
     // Room for the longest file that fits: a vector could fail before it is known what the text is.
     let mut room = [0; NUMBERS];
-    let counts = numbers_of(text, &mut room).map_err(ReadError::Ceases)?;
-    let long = 1 + 2 * counts.changes + 4 * counts.cells;
-    Ok(read_file(heap, &room[..long], counts)?)
+    let file = file_of(text, &mut room).map_err(ReadError::Ceases)?;
+    Ok(read_file(heap, &file)?)
 }

@@ -5,8 +5,8 @@ use native.Mathlib.Nat.{mul-mod_right}
 use Rattle.std.proofs.lemmas.Iterator.{first_from_Range}
 use Rattle.file.specs.Places.{NumberFits}
 use Rattle.file.proofs.Beginnings.{whole, misfit, short, begins}
-use Rattle.file.proofs.read.Goals as goal
-use Rattle.file.proofs.read.Goals.{then-rest-changes-via-then-rest-changes, then-rest-changes-via-else-rest-changes+then-rest-changes-gt0}
+use Rattle.file.proofs.File.read.Goals as goal
+use Rattle.file.proofs.File.read.Goals.{then-rest-changes-via-then-rest-changes, then-rest-changes-via-else-rest-changes+then-rest-changes-gt0}
 
 pub returns-in-Some : goal.returns-in-Some
 returns-in-Some c =
@@ -42,11 +42,11 @@ returns-then-rest-changes c =
           ]);
     }
 
-pub returns : goal.returns
-returns c =
+pub invariant_of-result : goal.invariant_of-result
+invariant_of-result c =
     let ns = c.args.numbers.now in
     let f =
     rw c.in_default.is at
     (first_from_Range _ _ _ c.find.result (λ i. NumberFits ns i → ⊥) (NumberFits ns) c.find.ensures.ran (λ x q k. search (rules, tests)) (λ x q k. search (rules, tests))) in
     let p = c.in-Some-split_first.ensures.cases in
-    whole _ _ _ (omega (arith, p.1)) (ap (λ (vs : List ℕ). get_or vs 0 0) p.0) (λ i h. f i (omega arith) (omega arith))
+    record { fits = whole _ _ _ (omega (arith, p.1)) (ap (λ (vs : List ℕ). get_or vs 0 0) p.0) (λ i h. f i (omega arith) (omega arith)) }
