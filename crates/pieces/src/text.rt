@@ -190,7 +190,8 @@ impl<'a> TextMut<'a> {
         ensures { Rewrites self.old self.new (replaced (cells_of_mut self.old) (before self.old.tables.now at.piece + at.offset) 0 (all_cells new.now)) }
     {
         let n = new.len() / 4;
-        if self.text().used(at.piece) + n <= CELLS {
+        let all = self.text().used(at.piece) + n;
+        if all <= CELLS {
             insert_here(self.cells, self.tables, self.slots, at, new);
             return;
         }
@@ -199,7 +200,9 @@ impl<'a> TextMut<'a> {
             piece: at.piece + 1,
             offset: 0,
         };
-        let (front, back) = new.split_at(4 * n.min(CELLS - at.offset));
+        // Half of all the cells on each side, as far as the gap lets, so that neither piece is full and cut again soon.
+        let m = n.min((all / 2).saturating_sub(at.offset));
+        let (front, back) = new.split_at(4 * m);
         insert_here(self.cells, self.tables, self.slots, at, front);
         insert_here(self.cells, self.tables, self.slots, next, back);
     }

@@ -16,8 +16,8 @@ invariant_of-self c =
     (all_cells c.args.new.now) c.args.self.now.store c.requires.here (omega arith) c.insert_here.ensures.changed c.insert_here.ensures.sums c.insert_here.ensures.marks in
     record { store = e.store }
 
-pub returns-then-used-n-le-CELLS : goal.returns-then-used-n-le-CELLS
-returns-then-used-n-le-CELLS c =
+pub returns-then-all-le-CELLS : goal.returns-then-all-le-CELLS
+returns-then-all-le-CELLS c =
     record {
       same_cells = refl;
       same_tables = refl;
@@ -98,7 +98,7 @@ returns c =
     c.insert_here-3.new.c c.insert_here-3.new.p c.args.self.now.slots k o (all_cells c.split_at.result.0.now) (all_cells c.split_at.result.1.now)
     c.args.self.now.store l c.requires.within c.split.ensures.cut c.insert_here-2.ensures.changed c.insert_here-3.ensures.changed c.insert_here-3.ensures.sums
     c.insert_here-2.ensures.marks c.insert_here-3.ensures.marks in
-    let x = rw (← c.split_at.ensures.front, ← c.split_at.ensures.back) at (all_halves c.args.new.now c.min.result (omega arith)) in
+    let x = rw (← c.split_at.ensures.front, ← c.split_at.ensures.back) at (all_halves c.args.new.now c.min-m.result (omega arith)) in
     record {
       same_cells = refl;
       same_tables = refl;
