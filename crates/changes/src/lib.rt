@@ -42,6 +42,7 @@ pub fn read(words: &[u32], k: usize) -> Change
 }
 
 // Change number n, which is open, after the n that there are; no other word moves.
+// The words and their number apart, here and below: the number is a word that stands before these, and the session writes it itself.
 pub fn add(words: &mut [u32], n: usize, author: u32)
     requires { 2 * n + 1 < length words.old }
     ensures row { changes_of words.new (n + 1) ≡ changes_of words.old n ++ (record { author = author; became = 0 } ∷ []) }

@@ -22,7 +22,7 @@ pub struct Cell {
     pub struck: u32,
 }
 
-// A change has an author, and what became of it: 0 open, 1 accepted, 2 rejected. It is a number, as lent words and files have one, and any may stand there.
+// A change has an author, and what became of it: 0 open, 1 accepted, 2 rejected. It is a number, as lent words and files have one; in lent words any may stand.
 #[derive(Clone, Copy, Debug, PartialEq, Eq, Hash)]
 pub struct Change {
     pub author: u32,

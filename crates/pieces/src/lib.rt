@@ -23,6 +23,7 @@ const CELLS: usize = 1024;
 const FULL: usize = 768;
 
 // The words of `p` where the tree begins, where its leaves begin, where the first and the second words of the sets of marks begin, and where these end.
+// Tables beside one another, as `p` is lent memory.
 const TREE: usize = 2048;
 
 const LEAVES: usize = 4096;
@@ -53,6 +54,7 @@ pub fn used(p: &[u32], k: usize) -> usize
 }
 
 // The number of cell `j` of piece `k`.
+// By a piece and a place in it, here and in `Text`: half of the callers have no spot, and ask for the front of a piece or for the place behind its cells.
 // `s`, here and below, is for the contract alone: it says of how many slots the order is.
 pub fn number_of(p: &[u32], s: usize, k: usize, j: usize) -> usize
     requires order { Order p.now s }

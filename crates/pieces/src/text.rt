@@ -23,6 +23,8 @@ pub struct Text<'a> {
     ghost store: { Store cells.now tables.now slots } by { Prim.hlevel props },
 }
 
+// A piece goes by its number, here and in the crates above: a value of a text and a number would promise only that the piece is there, which each loop over
+// the numbers gives.
 impl<'a> Text<'a> {
     ghost use Rattle.pieces.specs.Text.{cells_in};
 
@@ -41,6 +43,15 @@ impl<'a> Text<'a> {
         ensures { result ≡ number self.now.tables.now k j }
     {
         crate::number_of(self.tables, self.slots, k, j)
+    }
+
+    /// The words of the cells of piece `k`.
+    pub fn words_of(&self, k: usize) -> &'a [u32]
+        requires { k < self.now.slots }
+        ensures cells { all_cells result.now ≡ piece self.now.cells.now self.now.tables.now k }
+        ensures long { length result.now ≡ 4 * uses self.now.tables.now k }
+    {
+        slots::part(self.cells, self.number_of(k, 0), self.used(k))
     }
 
     /// Cell `j` of piece `k`.
@@ -97,7 +108,7 @@ impl<'a> Text<'a> {
     }
 }
 
-/// A text that is changed. It has no `Debug`, which would print all of the memory.
+/// A text that is changed. It has no `Clone`, as it holds memory that is lent to be changed, and nothing prints or compares it.
 #[derive(Drop)]
 pub struct TextMut<'a> {
     pub cells: &'a mut [u32],
@@ -136,6 +147,7 @@ impl<'a> TextMut<'a> {
     }
 
     /// Puts letters into the text at `place`: new cells in one style, put in by one change.
+    /// (The change and not its mark, here and in `slots`, as the model's `new_cells` has it: the bound is what its mark needs.)
     pub fn put(&mut self, place: usize, letters: &[u8], style: u32, change: u32)
         requires place { place ≤ length (cells_of_mut self.old) }
         requires few { length letters.now ≤ 1024 }
@@ -150,9 +162,10 @@ impl<'a> TextMut<'a> {
     }
 
     /// Puts the cells whose words `new` has into the text at `place`.
+    /// (Words and no `Cells`, here and below: they are pasted as words, and only counted in fours.)
     pub fn insert(&mut self, place: usize, new: &[u32])
         requires place { place ≤ length (cells_of_mut self.old) }
-        requires few { length new.now ≤ 4096 }
+        requires few { length new.now / 4 ≤ 1024 }
         requires fits { length (cells_of_mut self.old) + length new.now / 4 ≤ 768 * (self.old.slots - 1) }
         ensures { Rewrites self.old self.new (take place (cells_of_mut self.old) ++ (cells_at new.now 0 (length new.now / 4) ++ drop place (cells_of_mut self.old))) }
     {
@@ -185,7 +198,7 @@ impl<'a> TextMut<'a> {
     fn insert_at(&mut self, at: Spot, new: &[u32])
         requires here { at.piece < self.old.slots }
         requires within { at.offset ≤ uses self.old.tables.now at.piece }
-        requires few { length new.now ≤ 4096 }
+        requires few { length new.now / 4 ≤ 1024 }
         requires spare { 1024 < uses self.old.tables.now at.piece + length new.now / 4 → uses self.old.tables.now (self.old.slots - 1) ≡ 0 }
         ensures { Rewrites self.old self.new (replaced (cells_of_mut self.old) (before self.old.tables.now at.piece + at.offset) 0 (all_cells new.now)) }
     {

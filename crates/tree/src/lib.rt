@@ -17,6 +17,7 @@ pub struct Spot {
 }
 
 // The leaf in which a place falls, with the place less all that the leaves before it count.
+// Words, here and below, and no type that promises `Sums`: `pieces` writes leaves itself while it moves cells, and has the sums made right once, by `rebuild`.
 pub fn find(t: &[u32], place: usize) -> Spot
     requires sums { Sums t.now }
     requires place { place < slice_index t.now 1 }
