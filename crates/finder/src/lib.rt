@@ -23,6 +23,7 @@ pub fn prepare(letters: &[u8], table: &mut [u32])
     }
 }
 
+// The letters and their table apart: `prepare` steps over a table that is filled only up to a letter, when no value can promise a whole one.
 // How many of the letters stand at the end of a text, after one letter more, where `matched` of them stood there before it. If it is
 // all of them, they are found. Over a whole text the steps back are no more than the steps on.
 pub fn step(letters: &[u8], table: &[u32], matched: usize, letter: u32) -> usize

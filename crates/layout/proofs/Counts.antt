@@ -1,11 +1,10 @@
 -- How many cells are seen, piece by piece.
-use Rattle.std.proofs.Common.{◌≡◌, ℕ, suc, ◌+◌, ◌*◌, Bool, true, false, cond, List, [], ◌∷◌, ◌++◌, length, refl, ap, ◌∙◌, arith}
+use Rattle.std.proofs.Common.{◌≡◌, ℕ, suc, ◌+◌, Bool, true, false, cond, List, [], ◌∷◌, ◌++◌, length, refl, ap, ◌∙◌, arith}
 use Rattle.std.specs.List.{filter}
 use Rattle.std.proofs.lemmas.List.{length-append}
 use Rattle.model.specs.Paper.{pick, Cell, seen, view}
-use Rattle.pieces.specs.Store.{slot, used, number, piece, strung, pieces_from}
+use Rattle.pieces.specs.Store.{piece, strung, pieces_from}
 use Rattle.pieces.proofs.Strung.{strung_more}
-use Rattle.slots.specs.Cells.{all_cells, cells_at}
 
 front : (t : Bool) (x : Cell) (xs ys : List Cell) → pick t (x ∷ (xs ++ ys)) (xs ++ ys) ≡ pick t (x ∷ xs) xs ++ ys
 front true x xs ys = refl
@@ -25,15 +24,6 @@ pub view_filter : (way : ℕ) (xs : List Cell) → view way xs ≡ filter (seen 
 unfolding view
 view_filter way [] = refl
 view_filter way (x ∷ xs) = ap (λ zs. pick (seen way x) (x ∷ zs) zs) (view_filter way xs) ∙ pick_cond (seen way x) (x ∷ filter (seen way) xs) (filter (seen way) xs)
-
--- the cells of piece k
-pub seen_here : (w p xs : List ℕ) (k way at u r : ℕ) → at ≡ number p k 0 → u ≡ used p k → all_cells xs ≡ cells_at w at u → r ≡ length (filter (seen way) (all_cells xs)) → r ≡ length (view way (piece w p k))
-unfolding piece
-seen_here w p xs k way at u r e f g h =
-    let z : at ≡ 1024 * slot p k = omega arith in
-    let here : cells_at w at u ≡ piece w p k = rw (z, f) in
-    let v = view_filter way (all_cells xs) in
-    cc
 
 -- one piece more
 pub seen_next : (w p : List ℕ) (k way n r : ℕ) → r ≡ length (view way (piece w p k)) → n ≡ length (view way (pieces_from w p 0 k)) → n + r ≡ length (view way (pieces_from w p 0 (k + 1)))

@@ -22,9 +22,9 @@ pub fn ways(x: Cell) -> u32
     ensures bits { (k : ℕ) → k < 3 → result / 2 ^ k % 2 ≡ pick (seen k (cell_of x)) 1 0 }
     ensures small { result < 8 }
 {
-    let accepted = if x.struck == 0 { 2 } else { 0 };
-    let rejected = if x.put_in == 0 { 4 } else { 0 };
-    1 + accepted + rejected
+    let accepted = u32::from(Way::Accepted.sees(x));
+    let rejected = u32::from(Way::Rejected.sees(x));
+    1 + 2 * accepted + 4 * rejected
 }
 
 // Which of the up to 32 cells of piece `k` from its cell `from` on are seen, as bits: bit i is that of cell from + i, and is not set past the end of the piece.
@@ -34,7 +34,7 @@ pub fn seen_bits(text: &Text, k: usize, from: usize, way: Way) -> u32
 {
     let n = text.used(k).saturating_sub(from).min(32);
     let mut bits = 0;
-    // By its number, as a text gives a cell.
+    // By its number, from the last one down: `Cells` goes forward only.
     for i in (0..n).rev() {
         let x = text.cell(k, from + i);
         bits = 2 * bits + u32::from(way.sees(x));
@@ -48,8 +48,11 @@ fn count_piece(text: &Text, k: usize, way: Way) -> usize
     ensures cells { result ≡ length (view (way_number way) (piece text.now.cells.now text.now.tables.now k)) }
     ensures few { result ≤ 1024 }
 {
-    let words = slots::part(text.cells, text.number_of(k, 0), text.used(k));
-    (slots::Cells { words }).filter(|x| way.sees(*x)).count()
+    (slots::Cells {
+        words: text.words_of(k),
+    })
+    .filter(|x| way.sees(*x))
+    .count()
 }
 
 // How many cells are seen.
@@ -58,7 +61,7 @@ pub fn count(text: &Text, way: Way) -> usize
     ensures few { result ≤ 2097152 }
 {
     let mut count = 0;
-    // An index, as the order of the slots is lent memory.
+    // By its number, which each question about a piece takes.
     for k in 0..text.slots {
         count += count_piece(text, k, way);
     }

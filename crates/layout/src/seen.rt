@@ -74,8 +74,9 @@ impl<'a> Seen<'a> {
     {
         let mut offset = self.spot.offset;
         let mut rest = self.rest;
-        // By its number, as the order of the pieces is lent memory.
+        // By its number, which each question about a piece takes.
         for piece in self.spot.piece..self.text.slots {
+            // The place is counted by hand: what is left of the piece goes out with the cell, so that no adapter can hold it.
             while let Some(x) = rest.next() {
                 if self.way.sees(x) {
                     return Some((Spot { piece, offset }, x, rest));

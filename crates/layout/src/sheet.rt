@@ -56,12 +56,14 @@ impl<'a> Sheet<'a> {
         Some(self.write_rows(from, n, out))
     }
 
+    // A spot and no `Seen` goes in, here and below: a row ends at a spot, and a value that promised `Within` would carry the text once more.
     // The row that goes from a spot, or none where no cell is left. Of its first `width` + 1 cells it goes to the first end of a paragraph; else, where
     // there are not so many, it has them all; else it goes to the last space, and where there is none it has `width` cells.
     fn row_from(&self, from: Spot) -> Option<Row>
         requires { Within self.now from }
         ensures { RowIs self.now from result }
     {
+        // Counted by hand, as it is wanted after the loop too.
         let mut long = 0;
         // the row as it is if it goes to the last space so far
         let mut space = None;

@@ -5,33 +5,32 @@ use Rattle.model.specs.Paper.{seen}
 use Rattle.model.specs.Values.{cell_of, way_number}
 use Rattle.slots.specs.Cells.{all_cells}
 use Rattle.slots.proofs.Words.{length_cells}
-use Rattle.layout.proofs.Counts.{seen_here}
+use Rattle.layout.proofs.Counts.{view_filter}
 use Rattle.layout.proofs.count_piece.Goals as goal
 
 pub count-requires-clause-fits : goal.count-requires-clause-fits
 count-requires-clause-fits c =
     let e = ap (λ s. length (all_cells s.words.now)) c.filter.ensures.source in
-    let l = length_cells c.part-words.result.now 0 (length c.part-words.result.now / 4) in
+    let l = length_cells c.words_of.result.now 0 (length c.words_of.result.now / 4) in
     let u = c.args.text.now.store.table.order.small c.args.k c.requires in
-    let n = c.part-words.ensures.long in
-    let z = c.used.ensures in
+    let n = c.words_of.ensures.long in
     inl (omega arith)
 
 pub returns-clause-cells : goal.returns-clause-cells
 returns-clause-cells c =
     let way = way_number c.args.way in
-    let words = c.part-words.result.now in
-    seen_here c.args.text.now.cells.now c.args.text.now.tables.now words c.args.k way c.number_of.result c.used.result c.count.result
-    c.number_of.ensures c.used.ensures c.part-words.ensures.cells
-    (count_from_yields_List c.filter.result _ c.count.ensures.ran
-    (YieldsList-from_filter _ (seen way) (YieldsList-from_first cell_of (λ s. all_cells s.words.now) (all_cells words) (ap (λ s. all_cells s.words.now) c.filter.ensures.source)) c.filter.ensures.closure (λ x b q k. search rules)))
+    let words = c.words_of.result.now in
+    let n = count_from_yields_List c.filter.result _ c.count.ensures.ran
+    (YieldsList-from_filter _ (seen way) (YieldsList-from_first cell_of (λ s. all_cells s.words.now) (all_cells words) (ap (λ s. all_cells s.words.now) c.filter.ensures.source)) c.filter.ensures.closure (λ x b q k. search rules)) in
+    let v = view_filter way (all_cells words) in
+    let e = c.words_of.ensures.cells in
+    cc
 
 pub returns-clause-few : goal.returns-clause-few
 returns-clause-few c =
     let e = ap (λ s. length (all_cells s.words.now)) c.filter.ensures.source in
-    let l = length_cells c.part-words.result.now 0 (length c.part-words.result.now / 4) in
+    let l = length_cells c.words_of.result.now 0 (length c.words_of.result.now / 4) in
     let u = c.args.text.now.store.table.order.small c.args.k c.requires in
-    let n = c.part-words.ensures.long in
-    let z = c.used.ensures in
+    let n = c.words_of.ensures.long in
     let b = c.count.ensures.bound in
     omega arith
