@@ -17,7 +17,8 @@ mod kind;
 use form::Form;
 use kind::Kind;
 
-// The numbers of a call. The letters of Put and Find are not in it: they stand beside it, where they came. A way to look is a number here,
+// The numbers of a call. The letters of Put and Find are not in it: they stand beside it, where they came. So a call is a plain value of numbers, and
+// no contract that speaks of one has to speak of bytes that are lent. A way to look is a number here,
 // since any number can come: one that names no way is refused by whoever has the paper.
 #[derive(Clone, Copy, Debug, PartialEq, Eq, Hash)]
 pub enum Call {
@@ -105,7 +106,8 @@ pub fn read(bytes: &[u8]) -> Result<(Call, &[u8]), usize>
 
 // Writes a number at a place: one of a row of numbers, or how many cells a row has. The answer is the place after it, here and below.
 // In this function and the next four the bytes and the place are two parameters: the bytes are lent memory that callers fill piece by piece, in
-// loops whose state is the place.
+// loops whose state is the place. A value of both would need a clause more in each contract: that it still writes to the same bytes, as `Rewrites` of
+// `pieces` has.
 pub fn number(out: &mut [u8], at: usize, n: u32) -> usize
     requires { at + 4 ≤ length out.old }
     ensures bytes { out.new ≡ over out.old at (word_bytes n) }

@@ -110,7 +110,7 @@ impl<'a> Sheet<'a> {
     }
 
     // Writes the first `n` cells that are seen from a spot on. The answer is the place after them.
-    // A place beside the bytes, as these are lent memory in which an answer grows.
+    // A place beside the bytes, for the reason in `codec`: a value of both would have to promise that they are the same bytes.
     fn write_cells(&self, from: Spot, n: u32, out: &mut [u8], at: usize) -> usize
         requires from { Within self.now from }
         requires enough { n ≤ length (ahead self.now from) }

@@ -15,7 +15,7 @@ use changes::Row;
 use pieces::Text;
 
 // Writes words as numbers. The answer is the place after them, here and below.
-// A place beside the bytes, as these are lent memory in which an answer grows; so below.
+// A place beside the bytes, here and below, for the reason in `codec`: a value of both would have to promise in each contract that they are the same bytes.
 fn write_words(words: &[u32], out: &mut [u8], at: usize) -> usize
     requires { at + 4 * length words.now ≤ length out.old }
     ensures bytes { out.new ≡ over out.old at (words_bytes words.now) }

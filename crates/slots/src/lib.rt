@@ -37,7 +37,8 @@ impl<'a> Iterator for Cells<'a> {
     }
 }
 
-// Cell number `a`. By its number, here and below, as a piece tells the number of a cell.
+// Cell number `a`. By its number, here and below, as a piece tells the number of a cell; and its four words by their places, as a conversion would first
+// have to make an array of them.
 pub fn read(c: &[u32], a: usize) -> Cell
     requires { 4 * a + 4 ≤ length c.now }
     ensures { cell_of result ≡ cell_at c.now a }
