@@ -9,7 +9,7 @@ mod verdict;
 mod way;
 
 pub use verdict::Verdict;
-pub use way::Way;
+pub use way::{UnknownWay, Way};
 
 // A letter with a style. `put_in` and `struck` name the open change that put it in or struck it out: 0 for none, else one more
 // than the change's number. These are the four numbers that stand for a cell in a paper's file and in lent memory,

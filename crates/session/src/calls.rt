@@ -39,9 +39,7 @@ impl<'a> Desk<'a> {
                 row,
                 count,
             } => {
-                let Ok(way) = Way::try_from(way) else {
-                    return Err(Refusal::OutOfRange);
-                };
+                let way = Way::try_from(way)?;
                 let rows = Rows {
                     way,
                     width,
@@ -58,6 +56,7 @@ impl<'a> Desk<'a> {
     }
 
     /// Does a call in range whose answer is short, or refuses it. A call that this stage cannot do is out of range.
+    /// (That the numbers are in range is asked of the fields of each call, here and below: a type for a call in range would be taken apart at once.)
     fn act(&mut self, call: Call, letters: &[u8]) -> Result<Answer, Refusal>
         requires good { good_fields (meaning call letters.now) ≡ true }
         requires short { is_show call ≡ false }
@@ -82,13 +81,11 @@ impl<'a> Desk<'a> {
                 style,
             } => self.style(place, count, style),
             Call::Count { way } => {
-                let Ok(way) = Way::try_from(way) else {
-                    return Err(Refusal::OutOfRange);
-                };
+                let way = Way::try_from(way)?;
                 Ok(Answer::Number(self.count(way)))
             }
             Call::Change { change } => self.ask(change),
-            Call::Show { .. } => unreachable(),
+            Call::Show { .. } => unreachable!(),
             // Four arms and no `|`, as the proof of one arm for all of them did not close.
             Call::Undo => Err(Refusal::OutOfRange),
             Call::Redo => Err(Refusal::OutOfRange),

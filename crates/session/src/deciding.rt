@@ -8,6 +8,7 @@ use model::Verdict;
 use sweep::Action;
 
 /// Where a run of cells begins, if all of it is there. A run of none may begin at the end.
+/// A place and how many, as calls have them: a range would be made only to be taken apart.
 pub fn run_in(total: usize, place: u32, count: u32) -> Option<usize>
     ensures { elim result [ Some at ↦ (at ≡ place) × (nat_le (place + count) total ≡ true) | None ↦ nat_le (place + count) total ≡ false ] }
 {

@@ -21,7 +21,7 @@ pub struct Desk<'a> {
     ghost held: { Held cells.now pieces.now } by { Prim.hlevel props },
 }
 
-// How many slots the text has.
+// How many slots the text has. (Of the pieces alone, here and below, as `cells` has both slices apart.)
 pub fn slots_in(pieces: &[u32]) -> usize
     requires few { slice_index pieces.now 0 ≤ 1000000 }
     requires some { 0 < length pieces.now }

@@ -20,7 +20,8 @@ use codec::Answer;
 use desk::{Desk, HEAD};
 pub use refusal::Refusal;
 
-/// How many bytes the longest answer has: 64 rows of 256 cells. Contracts have the number itself, as include/desk.h tells it to callers in C.
+/// How many bytes the longest answer has: 64 rows of 256 cells. Contracts have the number itself, as include/desk.h tells it to callers in C. They ask for
+/// it of the slice, here and below: that is C's, and what it has beyond the answer is promised to stay.
 pub const ANSWER_BYTES: usize = 262_405;
 
 const MOST_CELLS: u32 = 1_000_000;
@@ -146,6 +147,7 @@ fn try_call(
     requires room { 262405 ≤ length answer.old }
     ensures { Tried cells.old pieces.old (reading bytes.now) cells.new pieces.new answer.old answer.new result }
 {
+    // Not `map_err` and `?`: tried, and the proof that the call is the one that was read did not close.
     match codec::read(bytes) {
         Ok((call, letters)) => {
             let mut desk = Desk { cells, pieces };

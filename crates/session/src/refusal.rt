@@ -1,9 +1,11 @@
 // Why something is turned away.
 ghost use Rattle.std.specs.Prelude.{◌≡◌, ◌≤◌};
 ghost use Rattle.codec.specs.Values.{told};
+ghost use Rattle.session.specs.declared.refusal.Refusal.TheVariants.{OutOfRange};
 ghost use Rattle.session.specs.Refusals.{refusal_number, refusal_place, refusal_told};
 
 use codec::Answer;
+use model::UnknownWay;
 
 /// The reasons for which opening a desk, or a call, is turned away. Such a call changes nothing.
 #[derive(Clone, Copy, Debug, PartialEq, Eq, Hash)]
@@ -60,6 +62,14 @@ impl Refusal {
             | Refusal::NotOpen
             | Refusal::PastLimits => 0,
         }
+    }
+}
+
+impl From<UnknownWay> for Refusal {
+    ghost from_gives = { λ way refusal. refusal ≡ OutOfRange };
+
+    fn from(_way: UnknownWay) -> Refusal {
+        Refusal::OutOfRange
     }
 }
 

@@ -13,10 +13,10 @@ strike-requires c = record { good = rw c.in-Strike.is at c.requires.good }
 pub style-requires : goal.style-requires
 style-requires c = record { good = rw c.in-Style.is at c.requires.good }
 
-pub returns-in_default : goal.returns-in_default
-returns-in_default c =
+pub returns-in_err-way-in-Count : goal.returns-in_err-way-in-Count
+returns-in_err-way-in-Count c =
     let good = count_range c.in-Count.way (rw c.in-Count.is at c.requires.good) in
-    let bad = c.in_default.ensures.1 in
+    let bad = c.in_err-way-in-Count.ensures.1 in
     absurd (omega (arith, good, bad))
 
 pub returns-in-Put : goal.returns-in-Put

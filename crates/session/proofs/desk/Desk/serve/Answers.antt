@@ -16,7 +16,7 @@ returns-then-not-within c =
 pub show-requires-clause-good : goal.show-requires-clause-good
 show-requires-clause-good c =
     let good : good_fields (meaning c.args.call c.args.letters.now) ≡ true = sym (in_range_is c.args.call c.args.letters.now) ∙ sym c.if-not-within.ensures in
-    rw c.in-Ok.ensures (rw c.in-Show.is at good)
+    rw c.in_ok-way-in-Show.ensures (rw c.in-Show.is at good)
 
 pub act-requires : goal.act-requires
 act-requires c =
@@ -25,7 +25,7 @@ act-requires c =
 
 pub returns-in_err-short-in_default : goal.returns-in_err-short-in_default
 returns-in_err-short-in_default c =
-    let p = err_from_is_err_and c.from_residual.result c.from_residual.ensures.1 in
+    let p = err_from_is_err_and c.from_residual-in_err-short-in_default.result c.from_residual-in_err-short-in_default.ensures.1 in
     let e = c.in_err-short-in_default.ensures in
     rw (p.1, p.2) record { same_cells = e.same_cells; same_pieces = e.same_pieces; ended = (e.acted, refl) }
 
