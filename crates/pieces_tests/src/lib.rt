@@ -2,12 +2,12 @@
 // In a crate of its own, since a crate with tests is proved twice.
 #![tactic(auto)]
 
-ghost use Rattle.std.specs.Prelude.{◌≡◌, ◌≤◌, length};
+ghost use Rattle.std.specs.Prelude.{◌≡◌};
 
 #[cfg(test)]
 mod tests {
     use model::Cell;
-    use pieces::{Text, TextMut};
+    use pieces::TextMut;
     use std::process::Abort;
     use std::test::Fail;
 
@@ -16,147 +16,119 @@ mod tests {
     // As many cells as five slots take for sure.
     const MOST: usize = 3072;
 
-    // The store holds the cells of the row, and their marks are in the sets.
-    fn same(rt: &impl Abort, text: &Text, row: &[Cell]) -> Result<(), Fail> {
-        assert!(rt; text.count() == row.len());
-        for (place, expected) in row.iter().enumerate() {
-            let spot = text.locate(place);
-            let cell = text.cell(spot.piece, spot.offset);
-            assert!(rt; cell == *expected);
-            if cell.put_in > 0 {
-                assert!(rt; text.may_have(spot.piece, cell.put_in));
-            }
-            if cell.struck > 0 {
-                assert!(rt; text.may_have(spot.piece, cell.struck));
-            }
-        }
-        Ok(())
+    // A text in pieces, and beside it a plain row that is to have the same cells.
+    #[derive(Drop)]
+    struct Both<'a> {
+        text: TextMut<'a>,
+        row: Vec<Cell>,
+        ghost five: { text.slots ≡ 5 },
     }
 
-    // Puts letters into the store and into the row. Returns how many cells there are then.
-    fn put(
-        text: &mut TextMut,
-        row: &mut [Cell],
-        place: usize,
-        letters: &[u8],
-        change: u32,
-    ) -> Result<usize, Fail>
-        requires { text.old.slots ≡ 5 }
-        ensures { text.new.slots ≡ 5 }
-    {
-        let n = text.text().count();
-        let more = letters.len();
-        if more > 1024
-            || n > MOST
-            || n + more > MOST
-            || place > n
-            || change > 1000
-            || MOST > row.len()
-        {
-            return Err(Fail::new("no room"));
+    impl Both<'_> {
+        // Both have the same cells, and their marks are in the sets.
+        fn check(&self, rt: &impl Abort) {
+            let text = self.text.text();
+            assert!(rt; text.count() == self.row.len());
+            for (place, expected) in self.row.iter().enumerate() {
+                let spot = text.locate(place);
+                let cell = text.cell(spot.piece, spot.offset);
+                assert!(rt; cell == *expected);
+                if cell.put_in > 0 {
+                    assert!(rt; text.may_have(spot.piece, cell.put_in));
+                }
+                if cell.struck > 0 {
+                    assert!(rt; text.may_have(spot.piece, cell.struck));
+                }
+            }
         }
-        text.put(place, letters, 3, change);
-        row.copy_within(place..n, place + more);
-        for (cell, letter) in row[place..place + more].iter_mut().zip(letters) {
-            *cell = Cell {
+
+        // Puts letters into both.
+        fn put(&mut self, place: usize, letters: &[u8], change: u32) -> Result<(), Fail> {
+            let n = self.text.text().count();
+            if letters.len() > 1024
+                || n > MOST - letters.len()
+                || place > n
+                || place > self.row.len()
+                || change > 1000
+            {
+                return Err(Fail::new("no room"));
+            }
+            self.text.put(place, letters, 3, change);
+            let new = letters.iter().map(|letter| Cell {
                 letter: u32::from(*letter),
                 style: 3,
                 put_in: change + 1,
                 struck: 0,
-            };
+            });
+            self.row.splice(place..place, new)?;
+            Ok(())
         }
-        Ok(n + more)
-    }
 
-    // Takes `m` cells out of the store and out of the row. Returns how many cells there are then.
-    fn remove(text: &mut TextMut, row: &mut [Cell], place: usize, m: usize) -> Result<usize, Fail>
-        requires { text.old.slots ≡ 5 }
-        ensures { text.new.slots ≡ 5 }
-    {
-        let n = text.text().count();
-        if n > row.len() || place > n || m > n - place {
-            return Err(Fail::new("too many"));
-        }
-        text.remove(place, m);
-        row.copy_within(place + m..n, place);
-        Ok(n - m)
-    }
-
-    // Writes one cell of the store and of the row.
-    fn overwrite(rt: &impl Abort, text: &mut TextMut, row: &mut [Cell], place: usize, cell: Cell)
-        requires { text.old.slots ≡ 5 }
-        ensures { text.new.slots ≡ 5 }
-    {
-        assert!(rt; place < text.text().count());
-        assert!(rt; place < row.len());
-        let spot = text.text().locate(place);
-        text.overwrite(spot, cell);
-        row[place] = cell;
-    }
-
-    // All letters in turn.
-    fn spell(letters: &mut [u8]) {
-        let mut next = 32;
-        for letter in letters.iter_mut() {
-            *letter = next;
-            next = if next < 126 { next + 1 } else { 32 };
-        }
-    }
-
-    // Many edits, one after the other.
-    fn run(
-        rt: &impl Abort,
-        text: &mut TextMut,
-        row: &mut [Cell],
-        letters: &[u8],
-    ) -> Result<(), Fail>
-        requires slots { text.old.slots ≡ 5 }
-        requires letters { 300 ≤ length letters.now }
-    {
-        let mut n = 0;
-        let mut seed: usize = 1;
-        // By number: it is the number of the change, and goes over no row.
-        for change in 0..300 {
-            seed = (seed * 75 + 74) % 65537;
-            let many = 1 + seed % 299;
-            let place = seed % (n.min(MOST) + 1);
-            if n <= MOST && n + many <= MOST {
-                n = put(text, row, place, &letters[0..many], change)?;
-            } else {
-                n = remove(text, row, place / 2, n / 3)?;
+        // Takes `m` cells out of both.
+        fn remove(&mut self, place: usize, m: usize) -> Result<(), Fail> {
+            let n = self.text.text().count().min(self.row.len());
+            if place > n || m > n - place {
+                return Err(Fail::new("too many"));
             }
-            let cell = Cell {
-                letter: 10,
-                style: change,
-                put_in: 0,
-                struck: change + 1,
-            };
-            overwrite(rt, text, row, place / 2, cell);
-            assert!(rt; n <= row.len());
-            same(rt, &text.text(), &row[..n])?;
+            self.text.remove(place, m);
+            self.row.drain(place..place + m);
+            Ok(())
         }
-        Ok(())
+
+        // Writes one cell of both.
+        fn overwrite(&mut self, rt: &impl Abort, place: usize, cell: Cell) {
+            assert!(rt; place < self.text.text().count());
+            assert!(rt; place < self.row.len());
+            let spot = self.text.text().locate(place);
+            self.text.overwrite(spot, cell);
+            self.row[place] = cell;
+        }
+
+        // Many edits, one after the other.
+        fn run(&mut self, rt: &impl Abort, letters: &[u8; 300]) -> Result<(), Fail> {
+            let mut seed: usize = 1;
+            // By number: it is the number of the change, and goes over no row.
+            for change in 0..300 {
+                seed = (seed * 75 + 74) % 65537;
+                let many = 1 + seed % 299;
+                let n = self.row.len();
+                let place = seed % (n + 1);
+                if n <= MOST - many {
+                    self.put(place, &letters[..many], change)?;
+                } else {
+                    self.remove(place / 2, n / 3)?;
+                }
+                let cell = Cell {
+                    letter: 10,
+                    style: change,
+                    put_in: 0,
+                    struck: change + 1,
+                };
+                self.overwrite(rt, place / 2, cell);
+                self.check(rt);
+            }
+            Ok(())
+        }
     }
 
     #[test]
     fn edits(rt: HostRuntime) -> Result<(), Fail> {
         let mut cells = [7; 20480];
         let mut tables = [7; 10240];
-        let none = Cell {
-            letter: 0,
-            style: 0,
-            put_in: 0,
-            struck: 0,
-        };
-        let mut row = [none; 3072];
+        // All letters in turn.
         let mut letters = [0; 300];
-        spell(&mut letters);
+        for (letter, next) in letters.iter_mut().zip((32..127).cycle()) {
+            *letter = next;
+        }
         pieces::clear(&mut cells, &mut tables, SLOTS);
-        let mut text = TextMut {
-            cells: &mut cells,
-            tables: &mut tables,
-            slots: SLOTS,
+        let mut both = Both {
+            text: TextMut {
+                cells: &mut cells,
+                tables: &mut tables,
+                slots: SLOTS,
+            },
+            row: Vec::new(rt.alloc()),
         };
-        run(&rt, &mut text, &mut row, &letters)
+        both.run(&rt, &letters)
     }
 }

@@ -1,10 +1,20 @@
 -- A search over the cells that are seen, cell by cell.
-use Rattle.std.proofs.Common.{◌≡◌, ℕ, ◌+◌, ◌-◌, ◌^◌, ◌<◌, ◌≤◌, List, [], ◌∷◌, length, get_or, drop, sym, refl, ap, ◌∙◌, subst, arith}
+use Rattle.std.proofs.Common.{◌≡◌, ℕ, ◌+◌, ◌-◌, ◌^◌, ◌<◌, ◌≤◌, Some, None, List, [], ◌∷◌, length, get_or, drop, sym, refl, ap, ◌∙◌, subst, arith}
 use Rattle.std.proofs.lemmas.List.{drop-drop, get_or-drop, length-drop}
+use Rattle.std.specs.Iterator.{Yields}
+use Rattle.std.specs.Iterator.Adapters.{enumerate_source, enumerate_count, enumerate_steps, skip_source, skip_count, skip_steps}
+use Rattle.std.specs.declared.iter.Enumerate.{Enumerate}
+use Rattle.std.specs.declared.iter.Skip.{Skip}
 use Rattle.model.specs.Paper.{Cell, letters, view}
+use Rattle.model.specs.Values.{cell_of}
+use Rattle.model.specs.declared.Cell as code
 use Rattle.model.specs.Rows.{find_in}
 use Rattle.pieces.specs.Text.{cells_in}
 use Rattle.pieces.specs.declared.text.Text.{Text}
+use Rattle.pieces.specs.declared.Spot.{Spot}
+use Rattle.layout.specs.declared.seen.Seen.{Seen}
+use Rattle.layout.specs.Seen.{still, Gives}
+use Rattle.layout.proofs.Comes.{gives_more}
 use Rattle.layout.proofs.Spots.{left_all, left_few}
 use Rattle.finder.specs.Match.{Step, Seeking}
 use Rattle.finder.proofs.Finding.{letters_length, letters_drop, seeking_none, seeking_more, seeking_read, seeking_full, seeking_all}
@@ -84,6 +94,49 @@ module _ (all : List Cell) (from : ℕ) (ls : List ℕ) where
           let m = sought_read in
           let f = seeking_full all ls from (place - from) matched r (omega arith) steps_on e h.seeking in
           omega arith
+
+  -- a run of cells before `from`, each of them passed over
+  passed : (e t : Enumerate Seen) (xs : List (ℕ × (Spot × code.Cell))) (matched : ℕ) → length xs ≤ from - enumerate_count e → Yields (enumerate_steps Gives) e xs t
+      → Sought all from ls (still (enumerate_source e)) (enumerate_count e) matched
+      → Sought all from ls (still (enumerate_source t)) (enumerate_count t) matched × (enumerate_count t ≡ enumerate_count e + length xs)
+  passed e t [] matched l y h = (subst (λ i. Sought all from ls (still (enumerate_source i)) (enumerate_count i) matched) y h, omega (arith, ap enumerate_count y))
+  passed e t (x ∷ xs) matched l (j, g, y) h =
+      let n = gives_more (enumerate_source e) x.1.0 x.1.1 (enumerate_source j) g.0 in
+      let p = sought_pass (cell_of x.1.1) _ _ _ _ h n (omega arith) in
+      let q = passed j t xs matched (omega (arith, g.2)) y (subst (λ i. Sought all from ls (still (enumerate_source j)) i matched) (sym g.2) p) in
+      (q.0, omega (arith, q.1, g.2))
+
+  -- how far a search has come whose iterator still passes over all cells that stand before `from`
+  pub record Skips (s : Skip (Enumerate Seen)) (matched : ℕ) : Type 0 where
+    pub sought : Sought all from ls (still (enumerate_source (skip_source s))) (enumerate_count (skip_source s)) matched
+    pub count : skip_count s ≡ from - enumerate_count (skip_source s)
+
+  -- the cell x, which stands at `place`, comes out of such an iterator: the search has come to x, and t is the iterator behind it
+  pub record Comes (x : Cell) (place : ℕ) (t : Skip (Enumerate Seen)) (matched : ℕ) : Type 0 where
+    pub beyond : from ≤ place
+    pub sought : Sought all from ls (x ∷ still (enumerate_source (skip_source t))) place matched
+    pub next : enumerate_count (skip_source t) ≡ place + 1
+    pub count : skip_count t ≡ 0
+
+  module _ (s t : Skip (Enumerate Seen)) (matched : ℕ) (h : Skips s matched) where
+    -- a cell comes
+    pub skips_comes : (place : ℕ) (at : Spot) (x : code.Cell) → skip_steps (enumerate_steps Gives) s (Some (place, (at, x))) t → Comes (cell_of x) place t matched
+    skips_comes place at x (z, (xs, (j, y, g), l)) =
+        let q = passed (skip_source s) j xs matched (omega (arith, h.count, l)) y h.sought in
+        let n = gives_more (enumerate_source j) at x (enumerate_source (skip_source t)) g.0 in
+        let k = subst (λ i. Sought all from ls (still (enumerate_source j)) i matched) (sym g.1) q.0 in
+        record {
+          beyond = omega (arith, h.count, l, q.1, g.1);
+          sought = subst (λ now. Sought all from ls now place matched) n k;
+          next = omega (arith, g.1, g.2);
+          count = z;
+        }
+
+    -- nothing comes
+    pub skips_none : skip_steps (enumerate_steps Gives) s None t → find_in all ls from 0 ≡ 0
+    skips_none (z, (xs, (j, y, g), l)) =
+        let q = passed (skip_source s) j xs matched (omega (arith, h.count, l)) y h.sought in
+        sought_none _ _ _ g.0.0 q.0
 
 -- there are few cells
 pub all_few : (t : Text) (way : ℕ) → length (view way (cells_in t)) ≤ 2097152

@@ -25,12 +25,10 @@ pub fn find(text: &Text, way: Way, from: u32, letters: &[u8]) -> Option<u32>
     let mut table = [0; MOST];
     finder::prepare(letters, &mut table);
     let mut matched = 0;
-    for (place, (_, x)) in Seen::all(text, way).enumerate() {
-        if place >= from as usize {
-            matched = finder::step(letters, &table, matched, x.letter);
-            if matched == letters.len() {
-                return Some((place + 1 - matched) as u32);
-            }
+    for (place, (_, x)) in Seen::all(text, way).enumerate().skip(from as usize) {
+        matched = finder::step(letters, &table, matched, x.letter);
+        if matched == letters.len() {
+            return Some((place + 1 - matched) as u32);
         }
     }
     None

@@ -1,9 +1,0 @@
-use Rattle.std.proofs.Common.{arith}
-use Rattle.pieces.proofs.Texts.{length_text}
-use Rattle.pieces_tests.proofs.tests.put.Goals as goal
-
-pub put-requires : goal.put-requires
-put-requires c =
-    let e = length_text c.args.text.now.cells.now c.args.text.now.tables.now c.args.text.now.slots in
-    let n = rw (c.text.ensures.tables, c.text.ensures.slots) at c.count-n.ensures in
-    record { place = omega arith; few = omega arith; fits = omega arith; mark = omega arith }
