@@ -86,7 +86,7 @@ impl OpenDesk {
     }
 
     // Answers one line.
-    fn answer_line(&mut self, line: &[u8], out: &mut Vec<u8>) -> Result<(), Fault>
+    pub(crate) fn answer_line(&mut self, line: &[u8], out: &mut Vec<u8>) -> Result<(), Fault>
         ensures { Answered self.old line.now out.old.items self.new out.new.items result }
     {
         match text::read_line(*out.allocator(), line) {
@@ -94,18 +94,5 @@ impl OpenDesk {
             Err(Fault::Place(at)) => refuse(Refusal::NotACall { at }, out),
             Err(Fault::Memory) => Err(Fault::Memory),
         }
-    }
-
-    // Answers each line of what is left of a file.
-    pub(crate) fn answer_lines(&mut self, file: &[u8], out: &mut Vec<u8>) -> Result<(), Fault>
-        ensures { (d : Desk) → Reached (limits_at self.old) d → StandsFor self.old d → Appends (told_lines (line_answers (limits_at self.old) d (call_lines file.now))) out.old.items out.new.items result }
-    {
-        let mut rest = file;
-        // Each turn gives the next line and what is left: no iterator, as a line ends where it is found.
-        while let Some((line, after)) = crate::next_call(rest) {
-            self.answer_line(line, out)?;
-            rest = after;
-        }
-        Ok(())
     }
 }
