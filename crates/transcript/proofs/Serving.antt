@@ -144,14 +144,11 @@ refusal_bytes e a bytes was out out' long r same is size short tells =
     let none : drop long was ≡ [] = drop_all long was (omega arith) in
     tells (refusal_told e) (refusal_shows (refusal_number e) (refusal_place e)) (is ∙ (ap (λ (xs : List ℕ). answer_bytes a ++ xs) none ∙ (append-nil (answer_bytes a) ∙ ap answer_bytes same)))
 
--- memory that is enough for any desk that there is room for
-pub room_enough : (n c u : ℕ) (cs ps us : List ℕ) → room_for n c u ≡ true → length cs ≡ 28672 → length ps ≡ 10512 → (good_limits n c u && enough n c u cs ps us) ≡ true
-room_enough n c u cs ps us h lc lp =
-    let p = room_parts n c u h in
-    let a : 4096 * (n / 576 + 4) ≤ length cs = omega (arith, p.0) in
-    let b : 10256 + 2 * c ≤ length ps = omega (arith, p.1) in
-    let z : undo_words u ≤ length us = omega arith in
-    rw (room_good n c u h, le-leb (cells_words n) (length cs) a, le-leb (pieces_words c) (length ps) b, le-leb (undo_words u) (length us) z) refl
+-- memory that is as long as the limits ask for
+pub room_enough : (n c u : ℕ) (cs ps us : List ℕ) → room_for n c u ≡ true → length cs ≡ cells_words n → length ps ≡ pieces_words c → length us ≡ undo_words u →
+    (good_limits n c u && enough n c u cs ps us) ≡ true
+room_enough n c u cs ps us h lc lp lu =
+    rw (room_good n c u h, le-leb (cells_words n) (length cs) (omega arith), le-leb (pieces_words c) (length ps) (omega arith), le-leb (undo_words u) (length us) (omega arith)) refl
 
 -- a desk for which memory stands, said of lists that are the same
 pub stands_there : {cs ps us ds qs vs : List ℕ} (d : Desk) → cs ≡ ds → ps ≡ qs → us ≡ vs → Stands cs ps us d → Stands ds qs vs d

@@ -9,13 +9,6 @@ use session::{ANSWER_BYTES, Limits, Refusal};
 use std::alloc::{AllocError, Global};
 use text::Fault;
 
-// How many words it has: what the session asks for under the most limits.
-const CELLS_WORDS: usize = 28672;
-
-const PIECES_WORDS: usize = 10512;
-
-const UNDO_WORDS: usize = 1;
-
 // A desk and the memory that it lends. It has no `Debug`, which would print all of that. The memory is on the heap, as it is too much for a stack:
 // so there can be want of it where a desk is opened.
 #[derive(Drop)]
@@ -41,9 +34,10 @@ impl OpenDesk {
         requires { room_for limits.cells limits.changes limits.undos ≡ true }
         ensures { IfOk result (λ d. (limits_at d ≡ limits_for limits.cells limits.changes limits.undos) × StandsFor d new_desk) }
     {
-        let mut cells = vec![in heap; 0; CELLS_WORDS]?;
-        let mut pieces = vec![in heap; 0; PIECES_WORDS]?;
-        let mut undo = vec![in heap; 0; UNDO_WORDS]?;
+        let asked = session::words_for(limits);
+        let mut cells = vec![in heap; 0; asked.cells]?;
+        let mut pieces = vec![in heap; 0; asked.pieces]?;
+        let mut undo = vec![in heap; 0; asked.undo]?;
         let answer = vec![in heap; 0; ANSWER_BYTES]?;
         match session::open(
             cells.as_mut_slice(),
@@ -51,13 +45,13 @@ impl OpenDesk {
             undo.as_mut_slice(),
             limits,
         ) {
-            Ok(_) => Ok(OpenDesk {
+            Ok(()) => Ok(OpenDesk {
                 cells,
                 pieces,
                 undo,
                 answer,
             }),
-            Err(_) => unreachable(),
+            Err(_) => unreachable!(),
         }
     }
 
