@@ -69,18 +69,15 @@ fn check(limits: Limits) -> Result<(), Refusal>
 fn limits_of(first: &[u8]) -> Result<Limits, Refusal>
     ensures { LimitsFound (limits_reading first.now) result }
 {
-    match text::read_limits(first) {
-        Ok((cells, changes, undos)) => {
-            let limits = Limits {
-                cells,
-                changes,
-                undos,
-            };
-            check(limits)?;
-            Ok(limits)
-        }
-        Err(at) => Err(Refusal::NotACall { at }),
-    }
+    let (cells, changes, undos) =
+        text::read_limits(first).map_err(|at| Refusal::NotACall { at })?;
+    let limits = Limits {
+        cells,
+        changes,
+        undos,
+    };
+    check(limits)?;
+    Ok(limits)
 }
 
 // The answers to a file of calls, or want of memory. Each line of the file ends with byte 10 or with the file.
