@@ -69,8 +69,7 @@ fn check(limits: Limits) -> Result<(), Refusal>
 fn limits_of(first: &[u8]) -> Result<Limits, Refusal>
     ensures { LimitsFound (limits_reading first.now) result }
 {
-    let (cells, changes, undos) =
-        text::read_limits(first).map_err(|at| Refusal::NotACall { at })?;
+    let (cells, changes, undos) = text::read_limits(first).map_err(|at| Refusal::NotACall { at })?;
     let limits = Limits {
         cells,
         changes,

@@ -55,27 +55,19 @@ impl OpenDesk {
         }
     }
 
-    // Does the call that the bytes are, and says how many bytes its answer has.
-    fn call(&mut self, call: &[u8]) -> usize
-        ensures within { result ≤ vec_len self.new.answer }
-        ensures called { Called self.old.cells.items self.old.pieces.items self.old.undo.items call.now self.new.cells.items self.new.pieces.items self.new.undo.items (take result self.new.answer.items) }
-    {
-        session::call(
-            self.cells.as_mut_slice(),
-            self.pieces.as_mut_slice(),
-            self.undo.as_mut_slice(),
-            call,
-            self.answer.as_mut_slice(),
-        )
-    }
-
     // Does the call that the bytes are, and appends its answer.
     fn answer_call(&mut self, call: &[u8], out: &mut Vec<u8>) -> Result<(), Fault>
         ensures { CallDone self.old call.now out.old.items self.new out.new.items result }
     {
         // Each letter was put in by a call: so every answer can be shown.
         model::letters::nothing_from_nowhere();
-        let long = self.call(call);
+        let long = session::call(
+            self.cells.as_mut_slice(),
+            self.pieces.as_mut_slice(),
+            self.undo.as_mut_slice(),
+            call,
+            self.answer.as_mut_slice(),
+        );
         tell(&self.answer.as_slice()[..long], out)
     }
 
