@@ -106,14 +106,14 @@ pub extern "C" fn desk_call(
 fn suffices(cells: &[u32], pieces: &[u32], undo: &[u32]) -> bool
     ensures { result ≡ long_enough cells.now pieces.now undo.now }
 {
-    if pieces.len() < 3 {
-        return false;
-    }
     // the first three words of the pieces
+    let [max_cells, max_changes, max_undos, ..] = pieces else {
+        return false;
+    };
     let limits = Limits {
-        cells: pieces[0],
-        changes: pieces[1],
-        undos: pieces[2],
+        cells: *max_cells,
+        changes: *max_changes,
+        undos: *max_undos,
     };
     let lent = Sizes {
         cells: cells.len(),
@@ -123,7 +123,7 @@ fn suffices(cells: &[u32], pieces: &[u32], undo: &[u32]) -> bool
     limits.are_allowed() && limits.have_room(lent)
 }
 
-// A refusal as one number.
+// A refusal as one number. No `From`, as neither type is of this crate.
 fn refused(refusal: Refusal) -> i64
     ensures { result ≡ code (refusal_number refusal) (refusal_place refusal) }
 {

@@ -1,8 +1,9 @@
 -- Calls as lines of text. A line is a word, a space and a number for each of the call's numbers, and for put and find a space and the
 -- letters between quotes. Here: the line of a call, and the reading of a line, either as a call or to the first byte that does not fit.
 -- Definitions only: nothing is assumed.
-use Rattle.std.specs.Prelude.{◌≡◌, ℕ, zero, suc, ◌+◌, ◌-◌, ◌*◌, ◌<◌, ◌≤◌, max, Bool, true, false, ◌&&◌, List, [], ◌∷◌, ◌++◌, length, take, drop, Ok, Err, codes, decimal, Result, MatchResult, ◌==◌, nat_le, nat_lt, slice_index}
+use Rattle.std.specs.Prelude.{◌≡◌, ℕ, zero, suc, ◌+◌, ◌-◌, ◌*◌, ◌<◌, ◌≤◌, max, Bool, true, false, ◌&&◌, List, [], ◌∷◌, ◌++◌, length, take, drop, Ok, Err, Some, None, codes, decimal, Option, Result, MatchResult, ◌==◌, nat_le, nat_lt, slice_index}
 use Rattle.std.specs.Borrow.{Bor}
+use Rattle.std.specs.Global.{Vec}
 use Rattle.codec.specs.Bytes.{call_bytes}
 use Rattle.text.specs.declared.fault.Fault.{Fault}
 use Rattle.text.specs.declared.fault.Fault.TheVariants.{Place, Memory}
@@ -256,7 +257,16 @@ abbrev pub Stops : {A : Type 0} → Step A → Stop → Type 0
 Stops s (At rest) = s ≡ stop rest.now
 Stops s NoMemory = Unit {0}
 
--- letters, or a part of an answer, where a vector has ls then
+-- letters that are read into a vector of their own
+abbrev pub Collects : Step (List ℕ) → Result (Vec ℕ × Bor (List ℕ)) Stop → Type 0
+Collects s r = MatchResult r (λ p. s ≡ got p.0.items p.1.now) (Stops s)
+
+-- the letters of a call, if it has any
+abbrev pub letters_of : Option (Vec ℕ) → List ℕ
+letters_of (Some text) = text.items
+letters_of None = []
+
+-- a part of an answer, where a vector has ls then
 abbrev pub Adds : Step (List ℕ) → List ℕ → Result (Bor (List ℕ)) Stop → Type 0
 Adds s ls r = MatchResult r (λ rest. s ≡ got ls rest.now) (Stops s)
 

@@ -1,9 +1,9 @@
 // A line of text to the bytes of a call. Each part of a line has a function, which takes what is left of the line and gives what is left
 // after the part, or what is left from the first byte on that does not fit.
-ghost use Rattle.std.specs.Prelude.{◌≡◌, ◌<◌, ◌≤◌, false, [], ◌∷◌, ◌++◌, length, is_ok, if◌then◌else◌, MatchResult};
+ghost use Rattle.std.specs.Prelude.{◌≡◌, ◌<◌, ◌≤◌, false, [], ◌∷◌, ◌++◌, length, is_ok, is_some, if◌then◌else◌, MatchResult};
 ghost use Rattle.model.specs.Paper.{pick};
 ghost use Rattle.codec.specs.Bytes.{word_bytes, words_bytes};
-ghost use Rattle.text.specs.Lines.{got, stop, Reads, Passes, Adds, literal_in, digits_in, number_in, field_in, numbers_in, head_in, mark_of, letters_in, quoted_in, tail_in, shape_of, call_of, Stops, Lacks, call_in, line_reading, Makes, Fails, BytesOf, RefusedAt, limits_in, limits_reading, LimitsRead};
+ghost use Rattle.text.specs.Lines.{got, stop, Reads, Passes, Collects, letters_of, literal_in, digits_in, number_in, field_in, numbers_in, head_in, mark_of, letters_in, quoted_in, tail_in, shape_of, call_of, Stops, Lacks, call_in, line_reading, Makes, Fails, BytesOf, RefusedAt, limits_in, limits_reading, LimitsRead};
 
 use crate::fault::{Fault, Stop};
 use std::alloc::{AllocError, Global};
@@ -30,8 +30,7 @@ impl Shape {
     fn of(k: u8) -> Shape
         ensures { (result.word.now ≡ (shape_of k).word) × (result.count ≡ (shape_of k).count) × (result.lettered ≡ (shape_of k).lettered) × (result.count ≤ 4) }
     {
-        // The numbers are those that a call's bytes begin with. `codec` has an enum of them to itself, which would be no plainer here: each number
-        // goes into the bytes as it is.
+        // The numbers that a call's bytes begin with: an enum would name the twelve here and in a list for `read_line`, and be a number again in `write_call`.
         let (word, count, lettered): (&'static [u8], usize, bool) = match k {
             0 => (b"put", 3, true),
             1 => (b"strike", 3, false),
@@ -146,10 +145,11 @@ fn meaning(escaped: bool, x: u8) -> Mark
     }
 }
 
-// Letters up to the closing quote, appended to `text`.
-fn letters<'a>(line: &'a [u8], text: &mut Vec<u8>) -> Result<&'a [u8], Stop<'a>>
-    ensures { Adds (letters_in false text.old.items line.now) text.new.items result }
+// Letters up to the closing quote.
+fn letters<'a>(heap: Global, line: &'a [u8]) -> Result<(Vec<u8>, &'a [u8]), Stop<'a>>
+    ensures { Collects (letters_in false [] line.now) result }
 {
+    let mut text = Vec::new(heap);
     let mut escaped = false;
     let mut left = line;
     // What is left gets shorter byte by byte, and a byte may end the letters: no iterator gives what is left.
@@ -160,7 +160,7 @@ fn letters<'a>(line: &'a [u8], text: &mut Vec<u8>) -> Result<&'a [u8], Stop<'a>>
                 escaped = false;
             }
             Mark::Backslash => escaped = true,
-            Mark::Quote => return Ok(rest),
+            Mark::Quote => return Ok((text, rest)),
             Mark::Wrong => return Err(Stop::At(left)),
         }
         left = rest;
@@ -169,37 +169,45 @@ fn letters<'a>(line: &'a [u8], text: &mut Vec<u8>) -> Result<&'a [u8], Stop<'a>>
 }
 
 // Letters between quotes, after a space.
-fn quoted<'a>(line: &'a [u8], text: &mut Vec<u8>) -> Result<&'a [u8], Stop<'a>>
-    requires { text.old.items ≡ [] }
-    ensures { Adds (quoted_in line.now) text.new.items result }
+fn quoted<'a>(heap: Global, line: &'a [u8]) -> Result<(Vec<u8>, &'a [u8]), Stop<'a>>
+    ensures { Collects (quoted_in line.now) result }
 {
-    letters(literal(line, b" \"")?, text)
+    letters(heap, literal(line, b" \"")?)
 }
 
-// The letters, where the line has any: whether it has is the shape's to say, and `text` is filled only then.
-fn tail<'a>(line: &'a [u8], lettered: bool, text: &mut Vec<u8>) -> Result<&'a [u8], Stop<'a>>
-    requires { text.old.items ≡ [] }
-    ensures { Adds (tail_in lettered line.now) text.new.items result }
+// The letters, where the line has any: whether it has is the shape's to say.
+fn tail<'a>(
+    heap: Global,
+    line: &'a [u8],
+    lettered: bool,
+) -> Result<(Option<Vec<u8>>, &'a [u8]), Stop<'a>>
+    ensures { MatchResult result (λ p. (tail_in lettered line.now ≡ got (letters_of p.0) p.1.now) × (is_some p.0 ≡ lettered)) (Stops (tail_in lettered line.now)) }
 {
     if lettered {
-        quoted(line, text)
+        let (text, rest) = quoted(heap, line)?;
+        Ok((Some(text), rest))
     } else {
-        Ok(line)
+        Ok((None, line))
     }
 }
 
-// A whole line as call number `k`: its numbers, and its letters, in `text`.
-fn parse<'a>(line: &'a [u8], k: u8, numbers: &mut [u32], text: &mut Vec<u8>) -> Result<(), Stop<'a>>
-    requires { (length numbers.old ≡ (shape_of k).count) × (text.old.items ≡ []) }
+// A whole line as call number `k`: its numbers, and its letters.
+fn parse<'a>(
+    heap: Global,
+    line: &'a [u8],
+    k: u8,
+    numbers: &mut [u32],
+) -> Result<Option<Vec<u8>>, Stop<'a>>
+    requires { length numbers.old ≡ (shape_of k).count }
     ensures length { length numbers.new ≡ length numbers.old }
-    ensures read { MatchResult result (λ _. call_in k line.now ≡ got (call_of k numbers.new text.new.items) []) (Stops (call_in k line.now)) }
+    ensures read { MatchResult result (λ text. (call_in k line.now ≡ got (call_of k numbers.new (letters_of text)) []) × (is_some text ≡ (shape_of k).lettered)) (Stops (call_in k line.now)) }
 {
     let shape = Shape::of(k);
     let rest = head(line, shape.word, numbers)?;
-    let rest = tail(rest, shape.lettered, text)?;
+    let (text, rest) = tail(heap, rest, shape.lettered)?;
     // Here, in `limits` and in the writer's `whole`: a function's contract would be longer than these lines.
     if rest.is_empty() {
-        Ok(())
+        Ok(text)
     } else {
         Err(Stop::At(rest))
     }
@@ -212,27 +220,21 @@ fn push_word(out: &mut Vec<u8>, n: u32) -> Result<(), AllocError>
     out.extend_from_slice(&n.to_le_bytes())
 }
 
-// The bytes of call number `k`. A flag beside the letters, as the shape has it: an `Option` would be made of the two only to be taken apart.
-fn write_call(
-    heap: Global,
-    k: u8,
-    numbers: &[u32],
-    lettered: bool,
-    text: &[u8],
-) -> Result<Vec<u8>, Fault>
-    ensures { MatchResult result (λ v. v.items ≡ k ∷ (words_bytes numbers.now ++ pick lettered (word_bytes (length text.now) ++ text.now) [])) Lacks }
+// The bytes of call number `k`.
+fn write_call(heap: Global, k: u8, numbers: &[u32], text: Option<Vec<u8>>) -> Result<Vec<u8>, Fault>
+    ensures { MatchResult result (λ v. v.items ≡ k ∷ (words_bytes numbers.now ++ pick (is_some text) (word_bytes (length (letters_of text)) ++ letters_of text) [])) Lacks }
 {
     let mut out = Vec::new(heap);
     out.push(k)?;
     for n in numbers {
         push_word(&mut out, *n)?;
     }
-    if lettered {
+    if let Some(text) = text {
         let Ok(count) = u32::try_from(text.len()) else {
             return Err(Fault::Memory);
         };
         push_word(&mut out, count)?;
-        out.extend_from_slice(text)?;
+        out.extend_from_slice(text.as_slice())?;
     }
     Ok(out)
 }
@@ -242,13 +244,11 @@ fn read_as(heap: Global, line: &[u8], k: u8) -> Result<Vec<u8>, Fault>
     requires { k < 12 }
     ensures { MatchResult result (λ v. Makes (call_in k line.now) v.items) (Fails (call_in k line.now) line.now) }
 {
-    let shape = Shape::of(k);
     // An array, as a vector could want memory where no line does: no call has more numbers.
     let mut all = [0; 4];
-    let numbers = &mut all[..shape.count];
-    let mut text = Vec::new(heap);
-    match parse(line, k, numbers, &mut text) {
-        Ok(()) => write_call(heap, k, numbers, shape.lettered, text.as_slice()),
+    let numbers = &mut all[..Shape::of(k).count];
+    match parse(heap, line, k, numbers) {
+        Ok(text) => write_call(heap, k, numbers, text),
         // As in the writer: one function for both would have to ask that `rest` is no longer than the whole, which each shows in its own way.
         Err(Stop::At(rest)) => Err(Fault::Place(line.len() - rest.len())),
         Err(Stop::NoMemory) => Err(Fault::Memory),
@@ -261,7 +261,7 @@ pub fn read_line(heap: Global, line: &[u8]) -> Result<Vec<u8>, Fault>
     ensures { MatchResult result (λ v. BytesOf (line_reading line.now) v.items) (RefusedAt (line_reading line.now)) }
 {
     let mut far: usize = 0;
-    // The numbers that a call's bytes begin with: `codec` reads them, and has no list of its kinds to go over.
+    // By number, as in `Shape::of`: a line names its kind by a word, and an enum would need a list of its kinds to go over.
     for k in 0..12 {
         match read_as(heap, line, k) {
             Ok(call) => return Ok(call),

@@ -31,10 +31,11 @@ pub fn push_number(out: &mut Vec<u8>, n: u64) -> Result<(), AllocError>
 fn mark_of(put_in: u32, struck: u32) -> &'static [u8]
     ensures { result.now ≡ mark_line put_in struck }
 {
-    if put_in == 0 {
-        if struck == 0 { b"" } else { b"-" }
-    } else {
-        if struck == 0 { b"+" } else { &[194, 177] }
+    match (put_in, struck) {
+        (0, 0) => b"",
+        (0, _) => b"-",
+        (_, 0) => b"+",
+        _ => "±".as_bytes(),
     }
 }
 
@@ -47,7 +48,7 @@ fn escape_of(letter: u8) -> &'static [u8]
     }
 }
 
-// A letter, with its marks before it.
+// A letter, with its marks before it. It appends bytes, and no `Display` writes it, as a letter may be any byte.
 pub fn push_cell(out: &mut Vec<u8>, letter: u8, put_in: u32, struck: u32) -> Result<(), AllocError>
     ensures { OnOk result (out.new.items ≡ out.old.items ++ cell_line letter put_in struck) }
 {
@@ -184,13 +185,13 @@ fn form<'a>(bytes: &'a [u8], out: &mut Vec<u8>) -> Result<&'a [u8], Stop<'a>>
 }
 
 // A whole answer.
-fn whole<'a>(bytes: &'a [u8], out: &mut Vec<u8>) -> Result<(), Stop<'a>>
-    requires { out.old.items ≡ [] }
-    ensures { MatchResult result (λ _. answer_shown bytes.now ≡ got out.new.items []) (Stops (answer_shown bytes.now)) }
+fn whole<'a>(heap: Global, bytes: &'a [u8]) -> Result<Vec<u8>, Stop<'a>>
+    ensures { MatchResult result (λ v. answer_shown bytes.now ≡ got v.items []) (Stops (answer_shown bytes.now)) }
 {
-    let rest = form(bytes, out)?;
+    let mut out = Vec::new(heap);
+    let rest = form(bytes, &mut out)?;
     if rest.is_empty() {
-        Ok(())
+        Ok(out)
     } else {
         Err(Stop::At(rest))
     }
@@ -201,9 +202,8 @@ pub fn write_answer(heap: Global, answer: &[u8]) -> Result<Vec<u8>, Fault>
     ensures shown { MatchResult result (λ v. answer_shown answer.now ≡ got v.items []) (Fails (answer_shown answer.now) answer.now) }
     ensures line { (a : Answer) → showable a ≡ true → answer.now ≡ answer_bytes a → MatchResult result (λ v. v.items ≡ answer_line a) Lacks }
 {
-    let mut out = Vec::new(heap);
-    match whole(answer, &mut out) {
-        Ok(()) => Ok(out),
+    match whole(heap, answer) {
+        Ok(line) => Ok(line),
         Err(Stop::At(rest)) => Err(Fault::Place(answer.len() - rest.len())),
         Err(Stop::NoMemory) => Err(Fault::Memory),
     }

@@ -1,5 +1,5 @@
 -- From the contracts of the session and of the lines of text to one line answered, and from one line to all of them. Assumes nothing.
-use Rattle.std.proofs.Common.{◌≡◌, ℕ, suc, ◌+◌, ◌*◌, ◌/◌, ◌<◌, ◌≤◌, true, ◌&&◌, leb, List, [], ◌∷◌, ◌++◌, length, get_or, drop, Ok, Err, Result, sym, refl, ap, ◌∙◌, subst, arith, MatchResult}
+use Rattle.std.proofs.Common.{◌≡◌, ℕ, suc, ◌<◌, ◌≤◌, true, ◌&&◌, leb, List, [], ◌∷◌, ◌++◌, length, get_or, drop, Ok, Err, Result, sym, refl, ap, ◌∙◌, subst, arith, MatchResult}
 use Rattle.std.proofs.lemmas.List.{append_assoc, append-nil, drop_all}
 use Rattle.std.proofs.lemmas.Result.{MatchResult-weaker}
 use Rattle.std.proofs.lemmas.Bool.{and_parts, leb-true, le-leb, lt-ltb}
@@ -71,7 +71,7 @@ line_done m m' line bs out out' r is done = record {
   answers = λ d reached stands. subst (λ (x : Reading Call). Told x m out m' out' r d) (sym is.1) (done.call is.0 is.2 d reached stands);
 }
 
-module _ (m m₁ m₂ : OpenDesk) (file out rest₁ out₁ line out₂ : List ℕ) (r : Result (Unit {0}) Fault) (g : Going m file out m₁ rest₁ out₁) (a : Answered m₁ line out₁ m₂ out₂ r)
+module _ (m m₁ m₂ : OpenDesk) (out out₁ line out₂ : List ℕ) (done : List (List ℕ)) (r : Result (Unit {0}) Fault) (g : Going m out done m₁ out₁) (a : Answered m₁ line out₁ m₂ out₂ r)
     (d : Desk) (reached : Reached (limits_at m) d) (stands : StandsFor m d) where
   step : (x : Result (Unit {0}) Fault) → r ≡ x → Told (line_reading line) m₁ out₁ m₂ out₂ x (g.going d reached stands).0
   step x e =
@@ -84,10 +84,10 @@ module _ (m m₁ m₂ : OpenDesk) (file out rest₁ out₁ line out₂ : List �
   going_lacks f err = step (Err f) err
 
 -- one line more
-pub going_more : (m m₁ m₂ : OpenDesk) (file out rest₁ out₁ line rest₂ out₂ : List ℕ) (r : Result (Unit {0}) Fault) (u : Unit {0}) → r ≡ Ok u →
-    Going m file out m₁ rest₁ out₁ → call_lines rest₁ ≡ line ∷ call_lines rest₂ → Answered m₁ line out₁ m₂ out₂ r → Going m file out m₂ rest₂ out₂
+pub going_more : (m m₁ m₂ : OpenDesk) (out out₁ line out₂ : List ℕ) (done : List (List ℕ)) (r : Result (Unit {0}) Fault) (u : Unit {0}) → r ≡ Ok u →
+    Going m out done m₁ out₁ → Answered m₁ line out₁ m₂ out₂ r → Going m out (done ++ (line ∷ [])) m₂ out₂
 unfolding line_answers told_lines
-going_more m m₁ m₂ file out rest₁ out₁ line rest₂ out₂ r u ok g next a = record {
+going_more m m₁ m₂ out out₁ line out₂ done r u ok g a = record {
   limits = a.limits ∙ g.limits;
   going = λ d reached stands.
       let l : Limits = limits_at m in
@@ -96,21 +96,25 @@ going_more m m₁ m₂ file out rest₁ out₁ line rest₂ out₂ r u ok g next
       let rd : Reading Call = line_reading line in
       let here : (out₂ ≡ out₁ ++ told_line (line_answer l e rd)) × StandsFor m₂ (line_after l e rd) =
       subst (λ (k : Limits). (out₂ ≡ out₁ ++ told_line (line_answer k e rd)) × StandsFor m₂ (line_after k e rd)) g.limits
-      (step m m₁ m₂ file out rest₁ out₁ line out₂ r g a d reached stands (Ok u) ok) in
-      let more : List ℕ = told_lines (line_answers l (line_after l e rd) (call_lines rest₂)) in
-      let lines : told_lines (line_answers l e (call_lines rest₁)) ≡ told_line (line_answer l e rd) ++ more = ap (λ (xs : List (List ℕ)). told_lines (line_answers l e xs)) next in
-      let joined : out₂ ++ more ≡ out₁ ++ (told_line (line_answer l e rd) ++ more) = ap (λ (xs : List ℕ). xs ++ more) here.0 ∙ append_assoc out₁ (told_line (line_answer l e rd)) more in
-      (line_after l e rd, reached_after l e rd s.1, here.1, joined ∙ (ap (λ (xs : List ℕ). out₁ ++ xs) (sym lines) ∙ s.3));
+      (step m m₁ m₂ out out₁ line out₂ done r g a d reached stands (Ok u) ok) in (
+        line_after l e rd,
+        reached_after l e rd s.1,
+        here.1,
+        λ rest.
+            let more : List ℕ = told_lines (line_answers l (line_after l e rd) rest) in
+            ap (λ (xs : List ℕ). xs ++ more) here.0
+            ∙ (append_assoc out₁ (told_line (line_answer l e rd)) more
+            ∙ (s.3 (line ∷ rest) ∙ ap (λ (ls : List (List ℕ)). out ++ told_lines (line_answers l d ls)) (sym (append_assoc done (line ∷ []) rest)))),
+      );
 }
 
 -- after the last line
-pub going_all : (m m' : OpenDesk) (file out rest out' : List ℕ) → Going m file out m' rest out' → call_lines rest ≡ [] →
-    (d : Desk) → Reached (limits_at m) d → StandsFor m d → out' ≡ out ++ told_lines (line_answers (limits_at m) d (call_lines file))
+pub going_all : (m m' : OpenDesk) (out out' : List ℕ) (done : List (List ℕ)) → Going m out done m' out' →
+    (d : Desk) → Reached (limits_at m) d → StandsFor m d → out' ≡ out ++ told_lines (line_answers (limits_at m) d done)
 unfolding line_answers told_lines
-going_all m m' file out rest out' g none d reached stands =
+going_all m m' out out' done g d reached stands =
     let s = g.going d reached stands in
-    let nothing : told_lines (line_answers (limits_at m) s.0 (call_lines rest)) ≡ [] = ap (λ (xs : List (List ℕ)). told_lines (line_answers (limits_at m) s.0 xs)) none in
-    sym (append-nil out') ∙ (ap (λ (xs : List ℕ). out' ++ xs) (sym nothing) ∙ s.3)
+    sym (append-nil out') ∙ (s.3 [] ∙ ap (λ (ls : List (List ℕ)). out ++ told_lines (line_answers (limits_at m) d ls)) (append-nil done))
 
 -- limits that there is room for: a desk can be opened with them
 pub room_parts : (n c u : ℕ) → room_for n c u ≡ true → (n ≤ 2048) × (c ≤ 128) × (u ≤ 2048)
@@ -140,14 +144,11 @@ refusal_bytes e a bytes was out out' long r same is size short tells =
     let none : drop long was ≡ [] = drop_all long was (omega arith) in
     tells (refusal_told e) (refusal_shows (refusal_number e) (refusal_place e)) (is ∙ (ap (λ (xs : List ℕ). answer_bytes a ++ xs) none ∙ (append-nil (answer_bytes a) ∙ ap answer_bytes same)))
 
--- memory that is enough for any desk that there is room for
-pub room_enough : (n c u : ℕ) (cs ps us : List ℕ) → room_for n c u ≡ true → length cs ≡ 28672 → length ps ≡ 10512 → (good_limits n c u && enough n c u cs ps us) ≡ true
-room_enough n c u cs ps us h lc lp =
-    let p = room_parts n c u h in
-    let a : 4096 * (n / 576 + 4) ≤ length cs = omega (arith, p.0) in
-    let b : 10256 + 2 * c ≤ length ps = omega (arith, p.1) in
-    let z : undo_words u ≤ length us = omega arith in
-    rw (room_good n c u h, le-leb (cells_words n) (length cs) a, le-leb (pieces_words c) (length ps) b, le-leb (undo_words u) (length us) z) refl
+-- memory that is as long as the limits ask for
+pub room_enough : (n c u : ℕ) (cs ps us : List ℕ) → room_for n c u ≡ true → length cs ≡ cells_words n → length ps ≡ pieces_words c → length us ≡ undo_words u →
+    (good_limits n c u && enough n c u cs ps us) ≡ true
+room_enough n c u cs ps us h lc lp lu =
+    rw (room_good n c u h, le-leb (cells_words n) (length cs) (omega arith), le-leb (pieces_words c) (length ps) (omega arith), le-leb (undo_words u) (length us) (omega arith)) refl
 
 -- a desk for which memory stands, said of lists that are the same
 pub stands_there : {cs ps us ds qs vs : List ℕ} (d : Desk) → cs ≡ ds → ps ≡ qs → us ≡ vs → Stands cs ps us d → Stands ds qs vs d
@@ -167,22 +168,25 @@ one_told : (a : Answer) → told_lines (a ∷ []) ≡ told_line a
 unfolding told_lines
 one_told a = append-nil (told_line a)
 
-pub file_refused : (rd : Reading (List ℕ)) (e : Refusal) (lines : List (List ℕ)) (out out' : List ℕ) (r : Result (Unit {0}) Fault) → answers_after rd lines ≡ refusal_told e ∷ [] →
-    Appends (told_line (refusal_told e)) out out' r → Appends (told_lines (answers_after rd lines)) out out' r
-file_refused rd e lines out out' r is h = subst (λ (bs : List ℕ). Appends bs out out' r) (sym (ap told_lines is ∙ one_told (refusal_told e))) h
+-- the whole file, of which the first line is known
+file_told : (file first : List ℕ) (lines : List (List ℕ)) → call_lines file ≡ first ∷ lines → transcript file ≡ told_lines (answers_after (limits_reading first) lines)
+file_told file first lines is = ap (λ (ls : List (List ℕ)). told_lines (file_answers ls)) is
 
-pub file_served : (rd : Reading (List ℕ)) (n c u : ℕ) (l : Limits) (lines : List (List ℕ)) (out out' : List ℕ) (r : Result (Unit {0}) Fault) → rd ≡ means (n ∷ (c ∷ (u ∷ []))) →
-    room_for n c u ≡ true → l ≡ limits_for n c u → Appends (told_lines (line_answers l new_desk lines)) out out' r → Appends (told_lines (answers_after rd lines)) out out' r
-file_served rd n c u l lines out out' r is room same h =
-    subst (λ (others : List Answer). Appends (told_lines others) out out' r)
-    (ap (λ (k : Limits). line_answers k new_desk lines) same ∙ sym (ap (λ (x : Reading (List ℕ)). answers_after x lines) is ∙ room_answers n c u lines room)) h
-
--- the whole file
-pub whole : (file first rest out out' : List ℕ) → call_lines file ≡ first ∷ call_lines rest → out ≡ [] →
-    out' ≡ out ++ told_lines (answers_after (limits_reading first) (call_lines rest)) → out' ≡ transcript file
-whole file first rest out out' lines none is =
-    is ∙ (ap (λ (xs : List ℕ). xs ++ told_lines (answers_after (limits_reading first) (call_lines rest))) none ∙ ap (λ (ls : List (List ℕ)). told_lines (file_answers ls)) (sym lines))
-
-pub whole_none : (file out : List ℕ) → call_lines file ≡ [] → out ≡ [] → out ≡ transcript file
+pub file_empty : (file out : List ℕ) → call_lines file ≡ [] → out ≡ [] → out ≡ transcript file
 unfolding told_lines
-whole_none file out lines none = none ∙ ap (λ (ls : List (List ℕ)). told_lines (file_answers ls)) (sym lines)
+file_empty file out is none = none ∙ ap (λ (ls : List (List ℕ)). told_lines (file_answers ls)) (sym is)
+
+pub file_refused : (file first : List ℕ) (lines : List (List ℕ)) (e : Refusal) (out out' : List ℕ) → call_lines file ≡ first ∷ lines → answers_after (limits_reading first) lines ≡ refusal_told e ∷ [] →
+    out ≡ [] → out' ≡ out ++ told_line (refusal_told e) → out' ≡ transcript file
+file_refused file first lines e out out' is refuses none wrote =
+    wrote
+    ∙ (ap (λ (xs : List ℕ). xs ++ told_line (refusal_told e)) none
+    ∙ sym (file_told file first lines is ∙ (ap told_lines refuses ∙ one_told (refusal_told e))))
+
+pub file_served : (file first : List ℕ) (lines : List (List ℕ)) (n c u : ℕ) (l : Limits) (out out' : List ℕ) → call_lines file ≡ first ∷ lines → limits_reading first ≡ means (n ∷ (c ∷ (u ∷ []))) →
+    room_for n c u ≡ true → l ≡ limits_for n c u → out ≡ [] → out' ≡ out ++ told_lines (line_answers l new_desk lines) → out' ≡ transcript file
+file_served file first lines n c u l out out' is reads room same none wrote =
+    wrote
+    ∙ (ap (λ (xs : List ℕ). xs ++ told_lines (line_answers l new_desk lines)) none
+    ∙ (ap (λ (k : Limits). told_lines (line_answers k new_desk lines)) same
+    ∙ sym (file_told file first lines is ∙ (ap (λ (x : Reading (List ℕ)). told_lines (answers_after x lines)) reads ∙ ap told_lines (room_answers n c u lines room)))))

@@ -12,7 +12,7 @@ use Rattle.session.specs.declared.refusal.Refusal.TheVariants.{LimitsOutOfRange,
 use Rattle.session.specs.Refusals.{refusal_told}
 use Rattle.transcript.specs.declared.open.OpenDesk.{OpenDesk}
 use Rattle.transcript.specs.Open.{limits_at, StandsFor}
-use Rattle.transcript.specs.Transcript.{room_for, line_answer, line_after, line_answers, call_lines, answers_after, told_line, told_lines}
+use Rattle.transcript.specs.Transcript.{room_for, line_answer, line_after, line_answers, answers_after, told_line, told_lines}
 
 -- bytes were appended, or there is no memory
 abbrev pub Appends : List ℕ → List ℕ → List ℕ → Result (Unit {0}) Fault → Type 0
@@ -35,11 +35,12 @@ pub record Answered (m : OpenDesk) (line out : List ℕ) (m' : OpenDesk) (out' :
   pub answers : (d : Desk) → Reached (limits_at m) d → StandsFor m d →
       MatchResult r (λ _. (out' ≡ out ++ told_line (line_answer (limits_at m) d (line_reading line))) × StandsFor m' (line_after (limits_at m) d (line_reading line))) Lacks
 
--- Between two lines: memory stands for a desk at which the lines that are left are answered as they would have been from the start.
-pub record Going (m : OpenDesk) (file out : List ℕ) (m' : OpenDesk) (rest out' : List ℕ) : Type 0 where
+-- Some lines were answered: the memory m' stands for a desk at which any lines after them are answered as they would have been from the start.
+pub record Going (m : OpenDesk) (out : List ℕ) (done : List (List ℕ)) (m' : OpenDesk) (out' : List ℕ) : Type 0 where
   pub limits : limits_at m' ≡ limits_at m
   pub going : (d : Desk) → Reached (limits_at m) d → StandsFor m d →
-      (e : Desk) × Reached (limits_at m) e × StandsFor m' e × (out' ++ told_lines (line_answers (limits_at m) e (call_lines rest)) ≡ out ++ told_lines (line_answers (limits_at m) d (call_lines file)))
+      (e : Desk) × Reached (limits_at m) e × StandsFor m' e
+      × ((rest : List (List ℕ)) → out' ++ told_lines (line_answers (limits_at m) e rest) ≡ out ++ told_lines (line_answers (limits_at m) d (done ++ rest)))
 
 -- There is room for limits, or they are refused: because no desk can have them, or else because there is no room.
 abbrev pub RoomFound : (n c u : ℕ) → Result (Unit {0}) Refusal → Type 0

@@ -25,39 +25,11 @@ const MOST_CHANGES: u32 = 128;
 
 const MOST_UNDOS: u32 = 2048;
 
-// The first line of a file, and what comes after it. A line ends with byte 10 or with the file.
-fn next_line(file: &[u8]) -> Option<(&[u8], &[u8])>
-    ensures { MatchOption result (lines_of file.now ≡ []) (λ p. (lines_of file.now ≡ p.0.now ∷ lines_of p.1.now) × (length p.1.now < length file.now)) }
-{
-    if file.is_empty() {
-        return None;
-    }
-    match file.iter().position(|x| *x == b'\n') {
-        Some(i) => Some((&file[..i], &file[i + 1..])),
-        None => Some((file, &[])),
-    }
-}
-
 // Empty lines and lines that begin with # are passed over.
 fn is_passed(line: &[u8]) -> bool
     ensures { result ≡ passed_over line.now }
 {
     matches!(line, [] | [b'#', ..])
-}
-
-// The first line that is not passed over, and what comes after it.
-fn next_call(file: &[u8]) -> Option<(&[u8], &[u8])>
-    ensures { MatchOption result (call_lines file.now ≡ []) (λ p. (call_lines file.now ≡ p.0.now ∷ call_lines p.1.now) × (length p.1.now < length file.now)) }
-{
-    let mut rest = file;
-    // Each turn gives the next line and what is left: no iterator, as a line ends where it is found.
-    while let Some((line, after)) = next_line(rest) {
-        if !is_passed(line) {
-            return Some((line, after));
-        }
-        rest = after;
-    }
-    None
 }
 
 // Appends the line of an answer that can be shown, from its bytes.
@@ -97,40 +69,33 @@ fn check(limits: Limits) -> Result<(), Refusal>
 fn limits_of(first: &[u8]) -> Result<Limits, Refusal>
     ensures { LimitsFound (limits_reading first.now) result }
 {
-    match text::read_limits(first) {
-        Ok((cells, changes, undos)) => {
-            let limits = Limits {
-                cells,
-                changes,
-                undos,
-            };
-            check(limits)?;
-            Ok(limits)
-        }
-        Err(at) => Err(Refusal::NotACall { at }),
-    }
+    let (cells, changes, undos) = text::read_limits(first).map_err(|at| Refusal::NotACall { at })?;
+    let limits = Limits {
+        cells,
+        changes,
+        undos,
+    };
+    check(limits)?;
+    Ok(limits)
 }
 
-// Appends the answers to a file, whose first line is apart from the others.
-fn begin(heap: Global, first: &[u8], file: &[u8], out: &mut Vec<u8>) -> Result<(), Fault>
-    ensures { Appends (told_lines (answers_after (limits_reading first.now) (call_lines file.now))) out.old.items out.new.items result }
-{
-    match limits_of(first) {
-        Ok(limits) => {
-            let mut desk = OpenDesk::open(heap, limits)?;
-            desk.answer_lines(file, out)
-        }
-        Err(refusal) => refuse(refusal, out),
-    }
-}
-
-// The answers to a file of calls, or want of memory.
+// The answers to a file of calls, or want of memory. Each line of the file ends with byte 10 or with the file.
 pub fn answer_file(heap: Global, file: &[u8]) -> Result<Vec<u8>, Fault>
     ensures { MatchResult result (λ v. v.items ≡ transcript file.now) Lacks }
 {
     let mut out = Vec::new(heap);
-    if let Some((first, rest)) = next_call(file) {
-        begin(heap, first, rest, &mut out)?;
+    let mut lines = file.split(|x| *x == b'\n').filter(|line| !is_passed(line));
+    let Some(first) = lines.next() else {
+        return Ok(out);
+    };
+    match limits_of(first) {
+        Ok(limits) => {
+            let mut desk = OpenDesk::open(heap, limits)?;
+            for line in lines {
+                desk.answer_line(line, &mut out)?;
+            }
+        }
+        Err(refusal) => refuse(refusal, &mut out)?,
     }
     Ok(out)
 }

@@ -9,13 +9,6 @@ use session::{ANSWER_BYTES, Limits, Refusal};
 use std::alloc::{AllocError, Global};
 use text::Fault;
 
-// How many words it has: what the session asks for under the most limits.
-const CELLS_WORDS: usize = 28672;
-
-const PIECES_WORDS: usize = 10512;
-
-const UNDO_WORDS: usize = 1;
-
 // A desk and the memory that it lends. It has no `Debug`, which would print all of that. The memory is on the heap, as it is too much for a stack:
 // so there can be want of it where a desk is opened.
 #[derive(Drop)]
@@ -41,9 +34,10 @@ impl OpenDesk {
         requires { room_for limits.cells limits.changes limits.undos ≡ true }
         ensures { IfOk result (λ d. (limits_at d ≡ limits_for limits.cells limits.changes limits.undos) × StandsFor d new_desk) }
     {
-        let mut cells = vec![in heap; 0; CELLS_WORDS]?;
-        let mut pieces = vec![in heap; 0; PIECES_WORDS]?;
-        let mut undo = vec![in heap; 0; UNDO_WORDS]?;
+        let asked = session::words_for(limits);
+        let mut cells = vec![in heap; 0; asked.cells]?;
+        let mut pieces = vec![in heap; 0; asked.pieces]?;
+        let mut undo = vec![in heap; 0; asked.undo]?;
         let answer = vec![in heap; 0; ANSWER_BYTES]?;
         match session::open(
             cells.as_mut_slice(),
@@ -51,28 +45,14 @@ impl OpenDesk {
             undo.as_mut_slice(),
             limits,
         ) {
-            Ok(_) => Ok(OpenDesk {
+            Ok(()) => Ok(OpenDesk {
                 cells,
                 pieces,
                 undo,
                 answer,
             }),
-            Err(_) => unreachable(),
+            Err(_) => unreachable!(),
         }
-    }
-
-    // Does the call that the bytes are, and says how many bytes its answer has.
-    fn call(&mut self, call: &[u8]) -> usize
-        ensures within { result ≤ vec_len self.new.answer }
-        ensures called { Called self.old.cells.items self.old.pieces.items self.old.undo.items call.now self.new.cells.items self.new.pieces.items self.new.undo.items (take result self.new.answer.items) }
-    {
-        session::call(
-            self.cells.as_mut_slice(),
-            self.pieces.as_mut_slice(),
-            self.undo.as_mut_slice(),
-            call,
-            self.answer.as_mut_slice(),
-        )
     }
 
     // Does the call that the bytes are, and appends its answer.
@@ -81,12 +61,18 @@ impl OpenDesk {
     {
         // Each letter was put in by a call: so every answer can be shown.
         model::letters::nothing_from_nowhere();
-        let long = self.call(call);
+        let long = session::call(
+            self.cells.as_mut_slice(),
+            self.pieces.as_mut_slice(),
+            self.undo.as_mut_slice(),
+            call,
+            self.answer.as_mut_slice(),
+        );
         tell(&self.answer.as_slice()[..long], out)
     }
 
     // Answers one line.
-    fn answer_line(&mut self, line: &[u8], out: &mut Vec<u8>) -> Result<(), Fault>
+    pub(crate) fn answer_line(&mut self, line: &[u8], out: &mut Vec<u8>) -> Result<(), Fault>
         ensures { Answered self.old line.now out.old.items self.new out.new.items result }
     {
         match text::read_line(*out.allocator(), line) {
@@ -94,18 +80,5 @@ impl OpenDesk {
             Err(Fault::Place(at)) => refuse(Refusal::NotACall { at }, out),
             Err(Fault::Memory) => Err(Fault::Memory),
         }
-    }
-
-    // Answers each line of what is left of a file.
-    pub(crate) fn answer_lines(&mut self, file: &[u8], out: &mut Vec<u8>) -> Result<(), Fault>
-        ensures { (d : Desk) → Reached (limits_at self.old) d → StandsFor self.old d → Appends (told_lines (line_answers (limits_at self.old) d (call_lines file.now))) out.old.items out.new.items result }
-    {
-        let mut rest = file;
-        // Each turn gives the next line and what is left: no iterator, as a line ends where it is found.
-        while let Some((line, after)) = crate::next_call(rest) {
-            self.answer_line(line, out)?;
-            rest = after;
-        }
-        Ok(())
     }
 }

@@ -6,7 +6,7 @@ use Rattle.text.proofs.Shows.{written, no_stop}
 use Rattle.text.proofs.writer.write_answer.Goals as goal
 
 pub returns-in-Ok-clause-line : goal.returns-in-Ok-clause-line
-returns-in-Ok-clause-line c = λ a ok e. written c.args.answer.now a ok e c.whole.new.out.items c.in-Ok.ensures
+returns-in-Ok-clause-line c = λ a ok e. written c.args.answer.now a ok e c.in-Ok.line.items c.in-Ok.ensures
 
 pub overflow_sub-result : goal.overflow_sub-result
 overflow_sub-result c =

@@ -9,7 +9,8 @@ pub unreachable-requires : goal.unreachable-requires
 unreachable-requires c =
     let l = c.args.limits in
     let enough = room_enough l.cells l.changes l.undos c.as_mut_slice.result.now c.as_mut_slice-2.result.now c.as_mut_slice-3.result.now c.requires
-    (omega (arith, c.as_mut_slice.ensures.len, c.in_ok-cells.ensures.len)) (omega (arith, c.as_mut_slice-2.ensures.len, c.in_ok-pieces.ensures.len)) in
+    (omega (arith, c.as_mut_slice.ensures.len, c.in_ok-cells.ensures.len, c.words_for-asked.ensures.cells)) (omega (arith, c.as_mut_slice-2.ensures.len, c.in_ok-pieces.ensures.len, c.words_for-asked.ensures.pieces))
+    (omega (arith, c.as_mut_slice-3.ensures.len, c.in_ok-undo.ensures.len, c.words_for-asked.ensures.undo)) in
     let z : ◌≡◌ {A = ℕ} 0 1 = cc (enough, c.in-Err.ensures.0) in omega arith
 
 pub returns : goal.returns
