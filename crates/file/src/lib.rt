@@ -80,7 +80,7 @@ fn number_fits(numbers: &[u32], i: usize) -> bool
     if i == 0 {
         return number <= MAX_CHANGES;
     }
-    // A change is its author and what became of it, by their places too: the limits of both, as `changes` has them.
+    // A change is its author and what became of it, by their places too, as `changes` has its words; the limits of both stand here.
     if i <= last {
         return number < if i % 2 == 1 { 256 } else { 3 };
     }
@@ -169,13 +169,9 @@ mod tests {
     fn refused(text: &[u8]) -> Option<usize> {
         // Lent words, as `numbers` fills them.
         let mut room = [0; 16];
-        let n = match numbers(text, &mut room) {
-            Ok(n) => n,
-            Err(k) => return Some(k),
-        };
-        match File::read(&room[0..n]) {
-            Ok(_) => None,
-            Err(i) => Some(i),
+        match numbers(text, &mut room) {
+            Ok(n) => File::read(&room[..n]).err(),
+            Err(k) => Some(k),
         }
     }
 

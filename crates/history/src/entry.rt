@@ -21,6 +21,7 @@ pub enum Kind {
     Style,
 }
 
+// One shape for all kinds, 0 where a kind has no such number: the seven words stand in lent memory for each, and an enum would be taken apart to write them and made again to read them.
 #[derive(Clone, Copy, Debug, PartialEq, Eq, Hash)]
 pub struct Head {
     // how many words the entry has, and what it counts
@@ -76,20 +77,24 @@ impl From<Verdict> for Kind {
     }
 }
 
-// The head of the entry that stands at `at`: a place beside the words and an index, here and below, as the log tells where an entry stands in lent memory.
+// The head of the entry that stands at `at`: a place beside the words, here and below, as the log tells where an entry stands in lent memory.
 pub fn read_head(u: &[u32], at: usize) -> Head
     requires { at + 7 ≤ length u.now }
     ensures words { result ≡ head_at u.now at }
     ensures entry { HeadReads u.now at result }
 {
+    let words = &u[at..];
+    let [size, count, kind, who, place, standing, style, ..] = *words else {
+        unreachable!()
+    };
     Head {
-        size: u[at],
-        count: u[at + 1],
-        kind: Kind::from(u[at + 2]),
-        who: u[at + 3],
-        place: u[at + 4],
-        standing: u[at + 5],
-        style: u[at + 6],
+        size,
+        count,
+        kind: Kind::from(kind),
+        who,
+        place,
+        standing,
+        style,
     }
 }
 
@@ -98,14 +103,15 @@ pub fn write_head(u: &mut [u32], at: usize, head: Head)
     requires { at + 7 ≤ length u.old }
     ensures { u.new ≡ take at u.old ++ (head_list head ++ drop (at + 7) u.old) }
 {
-    let kind = u32::from(head.kind);
-    u[at] = head.size;
-    u[at + 1] = head.count;
-    u[at + 2] = kind;
-    u[at + 3] = head.who;
-    u[at + 4] = head.place;
-    u[at + 5] = head.standing;
-    u[at + 6] = head.style;
+    u[at..at + HEAD].copy_from_slice(&[
+        head.size,
+        head.count,
+        u32::from(head.kind),
+        head.who,
+        head.place,
+        head.standing,
+        head.style,
+    ]);
 }
 
 // Writes the size of the entry at `at` as its last word.

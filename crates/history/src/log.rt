@@ -1,10 +1,13 @@
 // The log of what can be undone and done again, in lent words: a head of sixteen words, then the words of the entries, the oldest first.
-// Functions over the words and no struct with `Keeps` in it: `push` asks for room and not for an entry, and `behind`, `ahead` and `clear` for no log.
+// Functions over the words and no struct with the limit and `Keeps` in it: steps and `push` ask for a log of some limit, which a value would have to name; `behind`, `ahead` and `clear` ask for none.
 ghost use Rattle.std.specs.Prelude.{◌≡◌, ℕ, ◌+◌, ◌-◌, ◌*◌, ◌<◌, ◌≤◌, List, [], ◌++◌, length, drop, replicate, slice_index};
 ghost use Rattle.history.specs.Entry.{Entry};
 ghost use Rattle.history.specs.Log.{Log, Keeps, SomeLog, StepsBack, StepsAhead, Inside, Drops, ForgetsOldest, Forgets, Stays, Room, MakesRoom, CanPush, Pushes, WrittenKeeps, WrittenKeepsRoom, RoomPushes, end_of};
 
-// The head. Start, cursor and end are counted from word 16 on: a bare number here and below, as the contracts and the specs name it so.
+// How many words the head has. The contracts and the specs have the number itself.
+const STATE: usize = 16;
+
+// The head. Start, cursor and end are counted from the word after it on.
 #[derive(Clone, Copy, Debug, PartialEq, Eq, Hash)]
 struct State {
     start: u32,
@@ -21,19 +24,21 @@ struct State {
 impl State {
     ghost use Rattle.history.specs.Log.{Headed};
 
-    // By index, here and below, as the head stands in fixed lent memory.
     fn read(u: &[u32]) -> State
         requires { 16 ≤ length u.now }
         ensures { Headed u.now result }
     {
+        let [start, cursor, end, behind, ahead, done, undone, ..] = *u else {
+            unreachable!()
+        };
         State {
-            start: u[0],
-            cursor: u[1],
-            end: u[2],
-            behind: u[3],
-            ahead: u[4],
-            done: u[5],
-            undone: u[6],
+            start,
+            cursor,
+            end,
+            behind,
+            ahead,
+            done,
+            undone,
         }
     }
 
@@ -42,13 +47,15 @@ impl State {
         ensures head { Headed u.new self }
         ensures rest { drop 7 u.new ≡ drop 7 u.old }
     {
-        u[0] = self.start;
-        u[1] = self.cursor;
-        u[2] = self.end;
-        u[3] = self.behind;
-        u[4] = self.ahead;
-        u[5] = self.done;
-        u[6] = self.undone;
+        u[..7].copy_from_slice(&[
+            self.start,
+            self.cursor,
+            self.end,
+            self.behind,
+            self.ahead,
+            self.done,
+            self.undone,
+        ]);
     }
 }
 
@@ -58,7 +65,7 @@ pub fn behind(u: &[u32]) -> usize
     ensures word { result ≡ slice_index u.now 3 }
     ensures many { (limit : ℕ) (back ahead : List Entry) → Log u.now limit back ahead → result ≡ length back }
 {
-    u[3] as usize
+    State::read(u).behind as usize
 }
 
 // How many entries can be done again.
@@ -67,7 +74,7 @@ pub fn ahead(u: &[u32]) -> usize
     ensures word { result ≡ slice_index u.now 4 }
     ensures many { (limit : ℕ) (back ahead : List Entry) → Log u.now limit back ahead → result ≡ length ahead }
 {
-    u[4] as usize
+    State::read(u).ahead as usize
 }
 
 // Steps back over the latest entry behind the cursor, and tells where it stands.
@@ -81,9 +88,9 @@ pub fn step_back(u: &mut [u32]) -> usize
     ensures rest { drop 7 u.new ≡ drop 7 u.old }
 {
     let log = State::read(u);
-    let size = u[15 + log.cursor as usize];
+    let size = u[STATE - 1 + log.cursor as usize];
     let cursor = log.cursor - size;
-    let at = 16 + cursor as usize;
+    let at = STATE + cursor as usize;
     let count = u[at + 1];
     let state = State {
         cursor,
@@ -107,7 +114,7 @@ pub fn step_ahead(u: &mut [u32]) -> usize
     ensures rest { drop 7 u.new ≡ drop 7 u.old }
 {
     let log = State::read(u);
-    let at = 16 + log.cursor as usize;
+    let at = STATE + log.cursor as usize;
     let size = u[at];
     let count = u[at + 1];
     let state = State {
@@ -129,7 +136,7 @@ pub fn clear(u: &mut [u32], limit: u32)
     ensures words { u.new ≡ replicate (16 + 16 * limit) 0 ++ drop (16 + 16 * limit) u.old }
     ensures log { Log u.new limit [] [] }
 {
-    let n = 16 + 16 * limit as usize;
+    let n = STATE + 16 * limit as usize;
     u[..n].fill(0);
 }
 
@@ -159,7 +166,7 @@ fn forget_oldest(u: &mut [u32])
     ensures rest { drop 7 u.new ≡ drop 7 u.old }
 {
     let log = State::read(u);
-    let at = 16 + log.start as usize;
+    let at = STATE + log.start as usize;
     let size = u[at];
     let count = u[at + 1];
     let state = State {
@@ -179,7 +186,7 @@ fn forget(u: &mut [u32], most: u32)
     ensures rest { drop 7 u.new ≡ drop 7 u.old }
 {
     // By hand, as how many are forgotten is told by what they count.
-    while u[5] > most {
+    while State::read(u).done > most {
         forget_oldest(u);
     }
 }
@@ -192,9 +199,9 @@ fn to_front(u: &mut [u32])
     ensures rest { (n : ℕ) → end_of u.old ≤ n → drop n u.new ≡ drop n u.old }
 {
     let log = State::read(u);
-    let from = 16 + log.start as usize;
-    let to = 16 + log.end as usize;
-    u.copy_within(from..to, 16);
+    let from = STATE + log.start as usize;
+    let to = STATE + log.end as usize;
+    u.copy_within(from..to, STATE);
     let state = State {
         start: 0,
         cursor: log.cursor - log.start,
@@ -213,12 +220,12 @@ fn room_for(u: &mut [u32], limit: u32, count: u32) -> usize
     ensures room { Room u.new limit count result }
     ensures rest { drop (16 + 16 * limit) u.new ≡ drop (16 + 16 * limit) u.old }
 {
-    let end = 16 + u[2] as usize;
-    if end + 8 * count as usize <= 16 + 16 * limit as usize {
+    let end = STATE + State::read(u).end as usize;
+    if end + 8 * count as usize <= STATE + 16 * limit as usize {
         return end;
     }
     to_front(u);
-    16 + u[2] as usize
+    STATE + State::read(u).end as usize
 }
 
 // Makes room for a new entry that counts `count`: drops what could be done again, and forgets the oldest until the new one is within the limit.

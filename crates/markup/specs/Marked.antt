@@ -53,6 +53,11 @@ unfoldable pub following : List Change → Cell → List Cell → List ℕ
 following cs x [] = closed x.put_in x.struck ++ codes "</p>"
 following cs x (y ∷ ys) = between cs x y ++ (escaped y.letter ++ following cs y ys)
 
+-- what follows on the first of some cells
+abbrev pub followed : List Change → List Cell → List ℕ
+followed cs [] = []
+followed cs (x ∷ xs) = following cs x xs
+
 -- cells as paragraphs: letter 10 ends one, and is its last letter
 unfoldable pub marked : List Change → List Cell → List ℕ
 marked cs [] = []

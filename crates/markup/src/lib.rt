@@ -1,25 +1,22 @@
 // The cells of a paper as marked letters of a page: what is put in is underlined and what is struck out is struck through, each in the colour of its author.
 // What has letters of the paper is appended by functions and is no `Display`: a letter may be any byte, and `Display` writes a `str`.
 // `out` and `changes` stay parameters: methods of a struct of both would each have to say that the changes stay as they were.
-// `push_title` and `push_open` have none: a `Display` of each would be a struct of its parameters with the same lines inside, no plainer.
+// Tags and titles, from `push_said` to `push_between`, have none: a `Display` of each would be a struct of its parameters with the same lines inside, no plainer.
 // Where a vector's own method comes last, `Ok(())` follows it: it says what it appends in both outcomes, where our contracts speak of success only.
 #![tactic(auto)]
 
 ghost use Rattle.std.specs.Prelude.{◌≡◌, ◌-◌, ◌<◌, ◌++◌, map, OnOk, Some};
 ghost use Rattle.markup.specs.Laws.{ReadsCells, ReadsLetters};
-ghost use Rattle.markup.specs.Marked.{alike as look_alike, author_by, bare, between, closed, colour, following, hue as hue_of, mark_tag, marked, opened, said, span, title};
+ghost use Rattle.markup.specs.Marked.{alike as look_alike, author_by, bare, between, closed, colour, followed, hue as hue_of, mark_tag, marked, opened, said, span, title};
 ghost use Rattle.markup.specs.Plain.{escaped};
 ghost use Rattle.model.specs.Values.{change_of};
 ghost use Rattle.printing.specs.Values.{cell_of, cells_of};
 
 use model::Change;
-use printing::Cell;
+use printing::{Cell, END};
 use std::alloc::AllocError;
 use std::fmt;
 use std::io::Write;
-
-// The letter that ends a paragraph: a byte, as in `printing`.
-const END: u8 = 10;
 
 // A letter, by its name where it could be taken for markup.
 pub fn push_letter(out: &mut Vec<u8>, letter: u8) -> Result<(), AllocError>
@@ -167,22 +164,18 @@ fn push_between(out: &mut Vec<u8>, changes: &[Change], x: Cell, y: Cell) -> Resu
     push_open(out, changes, y)
 }
 
-// What follows on a cell.
-fn push_following(
-    out: &mut Vec<u8>,
-    changes: &[Change],
-    first: Cell,
-    more: &[Cell],
-) -> Result<(), AllocError>
-    ensures { OnOk result (out.new.items ≡ out.old.items ++ following (map change_of changes.now) (cell_of first) (cells_of more.now)) }
+// What follows on the first of some cells.
+fn push_following(out: &mut Vec<u8>, changes: &[Change], cells: &[Cell]) -> Result<(), AllocError>
+    ensures { OnOk result (out.new.items ≡ out.old.items ++ followed (map change_of changes.now) (cells_of cells.now)) }
 {
-    let mut last = first;
-    for x in more {
-        push_between(out, changes, last, *x)?;
-        push_letter(out, x.letter)?;
-        last = *x;
+    let Some(last) = cells.last() else {
+        return Ok(());
+    };
+    for [x, y] in cells.array_windows::<2>() {
+        push_between(out, changes, *x, *y)?;
+        push_letter(out, y.letter)?;
     }
-    out.extend_from_slice(close_of(last))?;
+    out.extend_from_slice(close_of(*last))?;
     out.extend_from_slice(b"</p>")?;
     Ok(())
 }
@@ -191,13 +184,13 @@ fn push_following(
 pub fn push_cells(out: &mut Vec<u8>, changes: &[Change], cells: &[Cell]) -> Result<(), AllocError>
     ensures { OnOk result (out.new.items ≡ out.old.items ++ marked (map change_of changes.now) (cells_of cells.now)) }
 {
-    let Some((first, more)) = cells.split_first() else {
+    let Some(first) = cells.first() else {
         return Ok(());
     };
     out.extend_from_slice(b"<p>")?;
     push_open(out, changes, *first)?;
     push_letter(out, first.letter)?;
-    push_following(out, changes, *first, more)
+    push_following(out, changes, cells)
 }
 
 // Whatever letters are written, a reader of the page sees just these.

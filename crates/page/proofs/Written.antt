@@ -1,14 +1,15 @@
 -- What is appended to the page, step by step.
 use Rattle.std.proofs.Common.{◌≡◌, ℕ, suc, ◌+◌, ◌-◌, ◌<◌, ◌≤◌, true, false, ◌||◌, eqb, Result, Ok, Err, Vec, vec_items, List, [], ◌∷◌, ◌++◌, map, length, get_or, drop, sym, refl, ap, ◌∙◌, arith}
 use Rattle.std.proofs.lemmas.List.{append_assoc, append-nil, drop_more, drop_all}
+use Rattle.model.specs.Paper as paper
 use Rattle.model.specs.Paper.{pick, Change}
 use Rattle.model.specs.declared.Change as code
 use Rattle.model.specs.Values.{change_of}
-use Rattle.std.specs.Prelude.{IfOk}
+use Rattle.std.specs.Prelude.{IfOk, OnOk, is_ok}
 use Rattle.std.specs.List.{list_any}
 use Rattle.printing.specs.declared.reading.Cell.{Cell}
 use Rattle.printing.specs.Values.{cell_of, cells_of}
-use Rattle.page.specs.Page.{bare, has_author, author_item, authors_from, change_row, change_rows}
+use Rattle.page.specs.Page.{bare, has_author, author_item, authors_from, change_row, change_rows, part}
 
 -- whether an author made a change, as `any` finds it
 pub has_any : (cs : List code.Change) (a : ℕ) → list_any (λ c. eqb c.author a) cs ≡ has_author (map change_of cs) a
@@ -59,6 +60,15 @@ changes_more out cs i d h =
 pub changes_end : (out : List ℕ) (cs : List Change) (i : ℕ) → length cs ≤ i → out ++ change_rows i (drop i cs) ≡ out
 unfolding change_rows
 changes_end out cs i h = ap (λ ys. out ++ change_rows i ys) (drop_all i cs h) ∙ append-nil out
+
+-- what was written, where the call's answer is good
+pub was_ok : {X E : Type 0} (r : Result X E) {p : Type 0} → true ≡ is_ok r → OnOk r p → p
+was_ok (Ok x) e h = h
+was_ok (Err x) e h = absurd (cc)
+
+-- a part of the changes and the cells that a paper has
+pub part_of : (name : List ℕ) (a b : List code.Change) (ys zs : List paper.Cell) → a ≡ b → ys ≡ zs → part name (map change_of a) ys ≡ part name (map change_of b) zs
+part_of name a b ys zs e f = ap (λ (cs : List code.Change). part name (map change_of cs) ys) e ∙ ap (λ (xs : List paper.Cell). part name (map change_of b) xs) f
 
 -- what is read where there is no change
 abbrev pub no_change : code.Change

@@ -90,20 +90,17 @@ table_head = lined (codes "<h2>Changes</h2>" ∷ (codes "<table>" ∷ (codes "<t
 unfoldable pub foot : List ℕ
 foot = lined (codes "</table>" ∷ (codes "</body>" ∷ (codes "</html>" ∷ [])))
 
-abbrev pub parts : List Change → List Cell → List ℕ
-parts cs xs =
-    part (codes "Everything") cs xs
-    ++ (part (codes "As if all open changes were accepted") cs (as_if 1 xs)
-    ++ part (codes "As if all open changes were rejected") cs (as_if 2 xs))
+abbrev pub parts : Paper → List ℕ
+parts p =
+    part (codes "Everything") p.changes p.cells
+    ++ (part (codes "As if all open changes were accepted") p.changes (as_if 1 p.cells)
+    ++ part (codes "As if all open changes were rejected") p.changes (as_if 2 p.cells))
 
 abbrev pub table : List Change → List ℕ
 table cs = table_head ++ (change_rows 0 cs ++ foot)
 
-abbrev pub page_with : List Change → List Cell → List ℕ
-page_with cs xs = head ++ (legend cs ++ (parts cs xs ++ table cs))
-
 abbrev pub page_of : Paper → List ℕ
-page_of p = page_with p.changes p.cells
+page_of p = head ++ (legend p.changes ++ (parts p ++ table p.changes))
 
 -- what the program writes of a text when it is asked for a page
 abbrev pub Paged : List ℕ → List ℕ → Type 0

@@ -4,13 +4,13 @@
 #![tactic(auto)]
 
 ghost use Rattle.model.specs.Values.{change_of, way_number};
-ghost use Rattle.page.specs.Page.{Paged, as_if, author_item, authors_from, bare as bare_cell, became as became_shown, change_row, change_rows, foot, has_author, head, key, legend, page_with, part, parts, table, table_head};
-ghost use Rattle.printing.specs.Values.{cells_of};
+ghost use Rattle.page.specs.Page.{Paged, as_if, author_item, authors_from, bare as bare_cell, became as became_shown, change_row, change_rows, foot, has_author, head, key, legend, page_of, part, parts, table, table_head};
+ghost use Rattle.printing.specs.Values.{cells_of, paper_of};
 ghost use Rattle.std.specs.Prelude.{◌≡◌, ◌++◌, map, IfOk, OnOk};
 
 use markup::{Colour, push_cells};
 use model::{Change, Way};
-use printing::{Cell, print_by, view};
+use printing::{Cell, Paper, print_by, view};
 use std::alloc::{AllocError, Global};
 use std::io::Write;
 
@@ -109,15 +109,13 @@ fn push_legend(out: &mut Vec<u8>, changes: &[Change]) -> Result<(), AllocError>
 // Some cells under a title.
 fn push_part(
     out: &mut Vec<u8>,
-    name: &[u8],
+    name: &str,
     changes: &[Change],
     cells: &[Cell],
 ) -> Result<(), AllocError>
     ensures { OnOk result (out.new.items ≡ out.old.items ++ part name.now (map change_of changes.now) (cells_of cells.now)) }
 {
-    out.extend_from_slice(b"<h2>")?;
-    out.extend_from_slice(name)?;
-    out.extend_from_slice(b"</h2>\n<div class='text'>")?;
+    write!(out, "<h2>{}</h2>\n<div class='text'>", name).map_err(|_| AllocError)?;
     push_cells(out, changes, cells)?;
     out.extend_from_slice(b"</div>\n")?;
     Ok(())
@@ -183,26 +181,23 @@ fn push_changes(out: &mut Vec<u8>, changes: &[Change]) -> Result<(), AllocError>
 }
 
 // The three ways to look at a paper.
-fn push_parts(
-    out: &mut Vec<u8>,
-    heap: Global,
-    changes: &[Change],
-    cells: &[Cell],
-) -> Result<(), AllocError>
-    ensures { OnOk result (out.new.items ≡ out.old.items ++ parts (map change_of changes.now) (cells_of cells.now)) }
+fn push_parts(out: &mut Vec<u8>, heap: Global, paper: &Paper) -> Result<(), AllocError>
+    ensures { OnOk result (out.new.items ≡ out.old.items ++ parts (paper_of paper.now)) }
 {
+    let changes = paper.changes.as_slice();
+    let cells = paper.cells.as_slice();
     let accepted = settled(heap, cells, Way::Accepted)?;
     let rejected = settled(heap, cells, Way::Rejected)?;
-    push_part(out, b"Everything", changes, cells)?;
+    push_part(out, "Everything", changes, cells)?;
     push_part(
         out,
-        b"As if all open changes were accepted",
+        "As if all open changes were accepted",
         changes,
         accepted.as_slice(),
     )?;
     push_part(
         out,
-        b"As if all open changes were rejected",
+        "As if all open changes were rejected",
         changes,
         rejected.as_slice(),
     )
@@ -218,18 +213,13 @@ fn push_table(out: &mut Vec<u8>, changes: &[Change]) -> Result<(), AllocError>
     Ok(())
 }
 
-// The changes and the cells apart, here and in `push_parts`, as the definitions `page_with` and `parts` take them.
-fn push_page(
-    out: &mut Vec<u8>,
-    heap: Global,
-    changes: &[Change],
-    cells: &[Cell],
-) -> Result<(), AllocError>
-    ensures { OnOk result (out.new.items ≡ out.old.items ++ page_with (map change_of changes.now) (cells_of cells.now)) }
+fn push_page(out: &mut Vec<u8>, heap: Global, paper: &Paper) -> Result<(), AllocError>
+    ensures { OnOk result (out.new.items ≡ out.old.items ++ page_of (paper_of paper.now)) }
 {
+    let changes = paper.changes.as_slice();
     out.extend_from_slice(head_of())?;
     push_legend(out, changes)?;
-    push_parts(out, heap, changes, cells)?;
+    push_parts(out, heap, paper)?;
     push_table(out, changes)
 }
 
@@ -237,7 +227,5 @@ fn push_page(
 pub fn write_page(heap: Global, text: &[u8]) -> Result<Vec<u8>, AllocError>
     ensures { IfOk result (λ v. Paged text.now v.items) }
 {
-    print_by(heap, text, |out, paper| {
-        push_page(out, heap, paper.changes.as_slice(), paper.cells.as_slice())
-    })
+    print_by(heap, text, |out, paper| push_page(out, heap, paper))
 }

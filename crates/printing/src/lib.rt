@@ -7,4 +7,4 @@ mod rows;
 
 pub use printer::{one_output, print, print_by, refuse};
 pub use reading::{Cell, Paper, ReadError, read_paper};
-pub use rows::view;
+pub use rows::{END, view};

@@ -9,18 +9,19 @@ use crate::reading::{Cell, Paper, ReadError, read_paper};
 use crate::rows::push_way;
 use model::Way;
 use std::alloc::{AllocError, Global};
-use text::push_number;
+use std::io::Write;
 
 // The sentence that says which number is missing or does not fit.
-// It ends in `Ok(())`, as a vector's own methods say what they append in both outcomes, where our contracts speak of success only.
 pub fn refuse(out: &mut Vec<u8>, place: usize) -> Result<(), AllocError>
     requires { place ≤ 8449 }
     ensures { OnOk result (out.new.items ≡ out.old.items ++ refusal place) }
 {
-    out.extend_from_slice(b"Not a paper: number ")?;
-    push_number(out, place as u64 + 1)?;
-    out.extend_from_slice(b" is missing or does not fit.\n")?;
-    Ok(())
+    write!(
+        out,
+        "Not a paper: number {} is missing or does not fit.\n",
+        place + 1
+    )
+    .map_err(|_| AllocError)
 }
 
 // The three ways to look at a paper.
@@ -68,6 +69,7 @@ pub fn one_output()
 mod tests {
     use super::*;
     use std::test::Fail;
+    use text::push_number;
 
     // No clause says that there is memory: a body that always fails would be proved too.
     #[test]

@@ -37,6 +37,7 @@ impl From<Cell> for model::Cell {
     }
 }
 
+// No `PartialEq` and no `Hash`: papers are never compared.
 #[derive(Debug, Drop)]
 pub struct Paper {
     pub changes: Vec<Change>,

@@ -15,10 +15,10 @@ use text::push_cell;
 // The most letters of a row.
 const WIDTH: usize = 64;
 
-// Bytes, where the letters of lent memory are words.
-const END: u8 = 10;
+// The letter that ends a paragraph. It and a space are bytes, where the letters of lent memory are words.
+pub const END: u8 = b'\n';
 
-const SPACE: u8 = 32;
+const SPACE: u8 = b' ';
 
 // A row has so many letters, and so many after it are not set: 1 or none, as a number, since it is added to find the next row.
 #[derive(Clone, Copy, Debug, PartialEq, Eq, Hash)]

@@ -68,6 +68,7 @@ pub fn put(u: &mut [u32], limit: u32, author: u32, place: u32, style: u32, lette
 }
 
 // The words of the cells of the text from `place` on that stand in one piece, at most `most` of them.
+// A place and how many, here and below, as calls have them: a range would be made only to be taken apart.
 fn stretch_at<'a>(text: &Text<'a>, place: usize, most: usize) -> &'a [u32]
     requires some { 0 < most }
     requires within { place + most ≤ length (cells_in text.now) }
@@ -154,7 +155,7 @@ pub fn style(u: &mut [u32], limit: u32, text: &Text, place: u32, n: u32, style: 
     seal(u, at, head);
 }
 
-// Writes a cell that has the mark of the change with its place. Returns how many are written, one or none.
+// Writes a cell that has the mark of the change with its place. Returns how many are written, one or none, as a number, since it is added up.
 fn mark_cell(words: &mut [u32], cell: Cell, change: u32, place: usize) -> usize
     requires low { place < 4294967296 }
     requires target { 5 * touches (cell_of cell ∷ []) change ≤ length words.old }
@@ -182,7 +183,7 @@ fn mark_cells(words: &mut [u32], cells: &[u32], change: u32, first: usize) -> us
 }
 
 // The same of piece `k`, whose first cell has the place `first` in the text.
-// Here and below a change is not the last of all `u32`, as its mark is one more.
+// Here and below a change is not the last of all `u32`, as its mark is one more. A bound and no type: a change is a number as calls and lent words have it.
 fn mark_piece(words: &mut [u32], text: &Text, k: usize, change: u32, first: usize) -> usize
     requires mark { change < 4294967295 }
     requires here { k < text.now.slots }
@@ -206,7 +207,7 @@ fn mark_text(words: &mut [u32], text: &Text, change: u32)
 {
     let mut found = 0;
     let mut first = 0;
-    // An index, as the order of the slots is lent memory.
+    // An index, as the order of the slots is lent memory, and as the words of a piece are needed, where `layout::Seen` gives its cells.
     for k in 0..text.slots {
         found += mark_piece(&mut words[MARK * found..], text, k, change, first);
         first += text.used(k);

@@ -1,14 +1,14 @@
-use Rattle.std.proofs.Common.{◌++◌, map, vec_items, codes, ap, ◌∙◌}
+use Rattle.std.proofs.Common.{◌++◌, map, vec_items, codes, ap, ◌∙◌, arith, rules}
 use Rattle.model.specs.Values.{change_of}
-use Rattle.printing.specs.Values.{cell_of, cells_of}
+use Rattle.printing.specs.Values.{cell_of, cells_of, none}
 use Rattle.printing.proofs.Joins.{at_end, join4, same}
 use Rattle.markup.specs.Plain.{escaped}
-use Rattle.markup.specs.Marked.{opened, following}
+use Rattle.markup.specs.Marked.{opened, followed}
 use Rattle.markup.proofs.Writes.{no_cells, some_cells}
 use Rattle.markup.proofs.push_cells.Goals as goal
 
 pub returns-in_default : goal.returns-in_default
-returns-in_default c = no_cells (vec_items c.args.out.now) (map change_of c.args.changes.now) c.args.cells.now c.in_default.ensures.cases
+returns-in_default c = no_cells (vec_items c.args.out.now) (map change_of c.args.changes.now) c.args.cells.now (omega (arith, c.in_default.ensures.item.3))
 
 pub returns : goal.returns
 returns c =
@@ -19,5 +19,5 @@ returns c =
     (same (codes "<p>")) c.in_ok-extend_from_slice.ensures.items
     (same (opened cs (cell_of x))) c.in_ok-push_open.ensures
     (same (escaped x.letter)) c.in_ok-push_letter.ensures
-    (same (following cs (cell_of x) (cells_of c.in-Some.more.now))) e
-    ∙ ap (λ ls. vec_items c.args.out.now ++ ls) (some_cells cs c.args.cells.now c.in-Some.more.now x c.in-Some.ensures.cases.0))
+    (same (followed cs (cells_of c.args.cells.now))) e
+    ∙ ap (λ ls. vec_items c.args.out.now ++ ls) (some_cells cs c.args.cells.now x none c.in-Some.ensures.item.3.0 (search rules)))
