@@ -5,7 +5,7 @@ use Rattle.model.specs.Calls.{Call, refused, Desk, Limits, good_call, turned_by,
 use Rattle.session.specs.Memory.{limits_of, paper_of, Held}
 use Rattle.session.specs.Acts.{Wrote, desk_of, Acted}
 
-apart : (n : ℕ) → eqb (suc n) 0 ≡ false
+pub apart : (n : ℕ) → eqb (suc n) 0 ≡ false
 apart n = ne_eqb (suc n) 0 (omega arith)
 
 -- why a call is turned away

@@ -34,7 +34,10 @@ impl<'a> Desk<'a> {
             return Err(Refusal::NoSuchCells { field: 1 });
         };
         let number = self.room(total)?;
-        recording::strike(self.cells, self.pieces, self.undo, author, place, count);
+        // Lent again by hand, here and below: of a field that is lent to be read, nothing is known after that.
+        let cells = &mut *self.cells;
+        let pieces = &mut *self.pieces;
+        recording::strike(cells, pieces, self.undo, author, place, count);
         self.write_strike(author, at, count as usize);
         Ok(Answer::Number(number))
     }
@@ -49,7 +52,9 @@ impl<'a> Desk<'a> {
         let Some(at) = run_in(total, place, count) else {
             return Err(Refusal::NoSuchCells { field: 0 });
         };
-        recording::style(self.cells, self.pieces, self.undo, place, count, style);
+        let cells = &mut *self.cells;
+        let pieces = &mut *self.pieces;
+        recording::style(cells, pieces, self.undo, place, count, style);
         self.write_style(at, count as usize, style);
         Ok(Answer::Number(count))
     }
@@ -72,14 +77,9 @@ impl<'a> Desk<'a> {
             return Err(Refusal::NotOpen);
         }
         let marked = self.touched(change);
-        recording::decision(
-            self.cells,
-            self.pieces,
-            self.undo,
-            change,
-            verdict,
-            marked,
-        );
+        let cells = &mut *self.cells;
+        let pieces = &mut *self.pieces;
+        recording::decision(cells, pieces, self.undo, change, verdict, marked);
         self.write_verdict(change, verdict);
         Ok(Answer::Number(marked))
     }

@@ -26,11 +26,13 @@ impl<'a> Desk<'a> {
         requires { InOrder self.old }
         ensures { Acts self.old self.new undoes (outcome result) }
     {
-        let behind = log::behind(self.undo);
+        // Lent again by hand, here and below: of a field that is lent to be read, nothing is known after that.
+        let undo = &mut *self.undo;
+        let behind = log::behind(undo);
         if behind == 0 {
             return Err(Refusal::NothingToUndo);
         }
-        let at = log::step_back(self.undo);
+        let at = log::step_back(undo);
         self.take_back(at);
         Ok(Answer::Number(behind as u32))
     }
@@ -40,11 +42,12 @@ impl<'a> Desk<'a> {
         requires { InOrder self.old }
         ensures { Acts self.old self.new redoes (outcome result) }
     {
-        let ahead = log::ahead(self.undo);
+        let undo = &mut *self.undo;
+        let ahead = log::ahead(undo);
         if ahead == 0 {
             return Err(Refusal::NothingToRedo);
         }
-        let at = log::step_ahead(self.undo);
+        let at = log::step_ahead(undo);
         self.do_again(at);
         Ok(Answer::Number(ahead as u32))
     }
@@ -54,8 +57,9 @@ impl<'a> Desk<'a> {
         requires { CanUndo self.old.cells.now self.old.pieces.now self.old.undo.now at }
         ensures { Writes self.old self.new (undo_of (entry_in self.old.undo.now at) (paper_in self.old)) }
     {
-        let head = entry::read_head(self.undo, at);
-        cells::take_back(self.cells, self.pieces, self.undo, at);
+        let undo = &mut *self.undo;
+        let head = entry::read_head(undo, at);
+        cells::take_back(self.cells, self.pieces, undo, at);
         self.take_back_change(head.kind, head.who);
     }
 
@@ -76,7 +80,8 @@ impl<'a> Desk<'a> {
         requires { CanRedo self.old.cells.now self.old.pieces.now self.old.undo.now at }
         ensures { Writes self.old self.new (rewritten (paper_in self.old) (call_of (entry_in self.old.undo.now at))) }
     {
-        let head = entry::read_head(self.undo, at);
+        let undo = &mut *self.undo;
+        let head = entry::read_head(undo, at);
         self.again(head, at + HEAD);
     }
 
@@ -104,10 +109,22 @@ impl<'a> Desk<'a> {
         requires allowed { turned (limits_of self.old.pieces.now) (desk_of self.old.cells.now self.old.pieces.now) (call_again Put head (take n (drop from self.old.undo.now))) ≡ 0 }
         ensures { Writes self.old self.new (rewritten (paper_in self.old) (call_again Put head (take n (drop from self.old.undo.now)))) }
     {
-        let mut letters = [0; LETTERS];
-        copy_letters(&self.undo[from..from + n], &mut letters);
+        let undo = &mut *self.undo;
+        let letters = letters_at(undo, from, n);
         self.write_put(head.who, head.place as usize, head.style, &letters[..n]);
     }
+}
+
+/// The `n` letters that stand in the log from word `from` on, as bytes.
+fn letters_at(undo: &[u32], from: usize, n: usize) -> [u8; LETTERS]
+    requires inside { from + n ≤ length undo.now }
+    requires few { n ≤ 1024 }
+    requires good { good_letters (take n (drop from undo.now)) ≡ true }
+    ensures { take n result ≡ take n (drop from undo.now) }
+{
+    let mut letters = [0; LETTERS];
+    copy_letters(&undo[from..from + n], &mut letters);
+    letters
 }
 
 /// Letters that have a word each, as bytes.
