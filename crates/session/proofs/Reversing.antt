@@ -1,6 +1,6 @@
 -- Undo and redo: from the entries in the log to the paper in memory and to every desk that memory stands for. Assumes nothing.
 use Rattle.std.proofs.Common.{◌≡◌, ℕ, zero, suc, ◌+◌, ◌-◌, ◌*◌, ◌<◌, ◌≤◌, Bool, true, false, ◌&&◌, ◌||◌, eqb, ltb, leb, ◌≢◌, List, [], ◌∷◌, ◌++◌, length, get_or, take, drop, set, sym, refl, ap, ◌∙◌, subst, zero-add, arith, get_or-set_other, get_or-set_same, eqb-true, leb-true}
-use Rattle.std.proofs.lemmas.List.{length-append, length-set, length-drop, drop-set-lt, take_at, length-take-le, get_or-take}
+use Rattle.std.proofs.lemmas.List.{length-append, length-set, length-drop, drop-set-lt, take_at, length-take-le}
 use Rattle.model.specs.Paper.{pick, Change, Paper}
 use Rattle.model.specs.Calls.{Call, put, strikes, accepts, rejects, styles, undo, redo, number, refused, Desk, Limits, good_letters, good_fields, fits, turned_by, writes, rewritten, turned, after, told, place, answer}
 use Rattle.codec.specs.Bytes.{answer_bytes}

@@ -146,6 +146,7 @@ impl<'a> Desk<'a> {
 
     /// Numbers of the paper's file, from one on: the whole answer is written, and its length is returned.
     fn save(&self, from: u32, count: u32, answer: &mut [u8]) -> Result<usize, Refusal>
+        requires sound { InOrder self.now }
         requires good { good_fields (saves from count) ≡ true }
         requires room { 262405 ≤ length answer.old }
         ensures { Tells self.now (saves from count) answer.old answer.new result }
@@ -155,6 +156,7 @@ impl<'a> Desk<'a> {
 
     /// Rows of a width in a way to look: the whole answer is written, and its length is returned.
     fn show(&self, rows: Rows, answer: &mut [u8]) -> Result<usize, Refusal>
+        requires sound { InOrder self.now }
         requires good { good_fields (shows (way_number rows.way) rows.width rows.first rows.count) ≡ true }
         requires room { 262405 ≤ length answer.old }
         ensures { Tells self.now (shows (way_number rows.way) rows.width rows.first rows.count) answer.old answer.new result }

@@ -1,4 +1,3 @@
-use Rattle.session.specs.Memory.{paper_of}
 use Rattle.session.proofs.recording.strike.Goals as goal
 
 pub returns : goal.returns

@@ -18,18 +18,3 @@ pub write_style-requires : goal.write_style-requires
 write_style-requires c =
     let h = c.args.head in
     style_allowed c.args.self.now.cells.now c.args.self.now.pieces.now h.place (h.count - 1) h.style (rw c.in-Style.is at c.requires.allowed)
-
-pub returns-in-Put : goal.returns-in-Put
-returns-in-Put c = rw c.in-Put.is c.put_again.ensures
-
-pub returns-in-Strike : goal.returns-in-Strike
-returns-in-Strike c = rw c.in-Strike.is c.write_strike.ensures
-
-pub returns-in-Accept : goal.returns-in-Accept
-returns-in-Accept c = rw c.in-Accept.is c.write_verdict.ensures
-
-pub returns-in-Reject : goal.returns-in-Reject
-returns-in-Reject c = rw c.in-Reject.is c.write_verdict-in-Reject.ensures
-
-pub returns-in-Style : goal.returns-in-Style
-returns-in-Style c = rw c.in-Style.is c.write_style.ensures

@@ -1,4 +1,4 @@
-use Rattle.std.proofs.Common.{◌≡◌, arith}
+use Rattle.std.proofs.Common.{◌≡◌}
 use Rattle.history.specs.Head.{head_of}
 use Rattle.session.specs.Undoing.{entry_in}
 use Rattle.session.proofs.Reversing.{change_can, taken_back}
