@@ -69,22 +69,6 @@ module _ (ps : List ℕ) (d : Desk) where
   answer_same (change c) h = refl
   answer_same (save i n) h = refl
 
--- a call that writes is one of these
-writes_by_paper : (c : Call) → writes c ≡ true → by_paper c ≡ true
-unfolding writes
-writes_by_paper (put a i s ls) h = refl
-writes_by_paper (strikes a i n) h = refl
-writes_by_paper (accepts c) h = refl
-writes_by_paper (rejects c) h = refl
-writes_by_paper (styles i n s) h = refl
-writes_by_paper undo h = h
-writes_by_paper redo h = h
-writes_by_paper (show k w r n) h = refl
-writes_by_paper (find k i ls) h = refl
-writes_by_paper (count k) h = refl
-writes_by_paper (change c) h = refl
-writes_by_paper (save i n) h = refl
-
 -- memory with the paper p and these entries, after a write
 pub stands_at : (cs ps us cs' ps' us' : List ℕ) (p : Paper) (back ahead : List Entry) (d : Desk) → Sound cs ps us → Wrote cs ps cs' ps' p →
     length us' ≡ length us → Log us' (get_or ps 2 0) back ahead → StandsFor (limits_of ps) p back ahead d → Stands cs' ps' us' d

@@ -1,5 +1,5 @@
 -- When a strike or a style is turned away, and what it leaves. Assumes nothing.
-use Rattle.std.proofs.Common.{◌≡◌, ℕ, suc, ◌+◌, ◌<◌, ◌≤◌, Bool, true, false, ◌&&◌, ltb, leb, List, [], ◌∷◌, ◌++◌, length, get_or, take, drop, sym, refl, ap, ◌∙◌, subst, ap₂, arith, ltb-true, le-leb, leb-true}
+use Rattle.std.proofs.Common.{◌≡◌, ℕ, suc, ◌+◌, ◌≤◌, Bool, true, false, ◌&&◌, leb, List, [], ◌∷◌, ◌++◌, length, get_or, take, drop, sym, refl, ap, ◌∙◌, subst, ap₂, arith, le-leb, leb-true}
 use Rattle.std.proofs.lemmas.List.{length-append, length-drop, length-take-le}
 use Rattle.model.specs.Paper.{pick, Paper, Cell, Change}
 use Rattle.model.specs.Calls.{strikes, styles, number, refused, call_number, good_fields, good_call, turned_by, writes, rewritten, fits, turned, told, place}
@@ -14,7 +14,6 @@ use Rattle.session.specs.Memory.{limits_of, paper_of, Held}
 use Rattle.session.specs.Acts.{Recorded, Wrote, desk_of, allows, with_cells, with_changes}
 use Rattle.session.specs.Contract.{Handled}
 use Rattle.session.proofs.Acting.{turned_first, turned_last, turned_not}
-use Rattle.session.proofs.Ranges.{both_true}
 use Rattle.session.proofs.Serving.{refused_handled, wrote_handled}
 use Rattle.session.proofs.Writing.{noted_too}
 
@@ -43,10 +42,6 @@ length_swept_run a cs xs i n h =
     let l : length (take i xs) ≡ i = length-take-le i xs (omega arith) in
     let m = length-drop (i + n) xs in
     omega arith
-
--- the limits allow one change more
-pub allowed_more : (ps : List ℕ) (cells : ℕ) → allows ps cells ≡ true → get_or ps 3 0 < get_or ps 1 0
-allowed_more ps cells k = ltb-true (get_or ps 3 0) (get_or ps 1 0) (both_true (leb cells (get_or ps 0 0)) (ltb (get_or ps 3 0) (get_or ps 1 0)) k).1
 
 module _ (cs ps : List ℕ) (held : Held cs ps) where
   changes_there : length (paper_of cs ps).changes ≡ get_or ps 3 0
