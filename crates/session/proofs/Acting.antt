@@ -1,11 +1,11 @@
 -- A call that is turned away, one that writes and one that only looks, at the desk that memory holds. Assumes nothing.
-use Rattle.std.proofs.Common.{◌≡◌, ℕ, suc, ◌<◌, Bool, true, false, eqb, List, sym, refl, ap, ◌∙◌, subst, arith, ne_eqb}
+use Rattle.std.proofs.Common.{◌≡◌, ℕ, suc, Bool, true, false, eqb, List, sym, refl, ap, ◌∙◌, subst, arith, ne_eqb}
 use Rattle.model.specs.Paper.{pick, Paper}
 use Rattle.model.specs.Calls.{Call, refused, Desk, Limits, good_call, turned_by, writes, rewritten, moved, changed, fits, turned, after, told, place, answer}
 use Rattle.session.specs.Memory.{limits_of, paper_of, Held}
 use Rattle.session.specs.Acts.{Wrote, desk_of, Acted}
 
-apart : (n : ℕ) → eqb (suc n) 0 ≡ false
+pub apart : (n : ℕ) → eqb (suc n) 0 ≡ false
 apart n = ne_eqb (suc n) 0 (omega arith)
 
 -- why a call is turned away
@@ -39,23 +39,6 @@ refuses cs ps c n held t =
       wrote = subst (λ (e : Desk). Wrote cs ps cs ps e.now) (sym same) (unwritten cs ps held);
       says = sym says;
       kept = λ h. (refl, refl);
-    }
-
--- the call was done: kept has nothing to say
-never : (n : ℕ) (A : Type 0) → n ≡ 0 → 0 < n → A
-never n A e h = absurd (omega arith)
-
-pub wrote_it : (cs ps cs' ps' : List ℕ) (c : Call) → turned (limits_of ps) (desk_of cs ps) c ≡ 0 → writes c ≡ true →
-    Wrote cs ps cs' ps' (rewritten (paper_of cs ps) c) → Acted cs ps c cs' ps' (told (desk_of cs ps) c)
-wrote_it cs ps cs' ps' c t w done =
-    let l : Limits = limits_of ps in
-    let d : Desk = desk_of cs ps in
-    let paper : (after l d c).now ≡ rewritten (paper_of cs ps) c = rw (t, w) refl in
-    let says : answer l d c ≡ told d c = ap (λ (m : ℕ). pick (eqb m 0) (told d c) (refused m (place c m))) t in
-    record {
-      wrote = subst (λ (p : Paper). Wrote cs ps cs' ps' p) (sym paper) done;
-      says = sym says;
-      kept = never (turned l d c) ((cs' ≡ cs) × (ps' ≡ ps)) t;
     }
 
 pub looked : (cs ps : List ℕ) (c : Call) → Held cs ps → turned (limits_of ps) (desk_of cs ps) c ≡ 0 → writes c ≡ false →

@@ -5,14 +5,19 @@ use Rattle.model.specs.Paper.{pick, Paper, Cell, Change, touched}
 use Rattle.model.specs.Calls.{change, number, two, refused, call_number, good_fields, good_call, became, turned_by, with_became, writes, rewritten, moved, fits, turned, told, place}
 use Rattle.changes.specs.Row.{change_at}
 use Rattle.changes.proofs.Steps.{change_in, length_changes}
+use Rattle.codec.specs.Bytes.{answer_bytes}
+use Rattle.history.specs.Entry.{entry_of}
+use Rattle.recorder.specs.Records.{decided}
 use Rattle.sweep.specs.Sweep.{swept}
 use Rattle.sweep.proofs.Laws.{one_meaning}
 use Rattle.model.specs.Values.{verdict_number}
 use Rattle.model.specs.declared.verdict.Verdict.{Verdict}
 use Rattle.model.specs.declared.verdict.Verdict.TheVariants.{Accepted, Rejected}
 use Rattle.session.specs.Memory.{limits_of, paper_of, Held}
-use Rattle.session.specs.Acts.{Wrote, desk_of, Acted, row_of, verdict_action, verdict_call, with_cells, with_changes}
-use Rattle.session.proofs.Acting.{turned_first, turned_not, refuses, wrote_it, looked}
+use Rattle.session.specs.Acts.{Recorded, Wrote, desk_of, Acted, verdict_action, with_cells, with_changes}
+use Rattle.session.specs.Contract.{Handled}
+use Rattle.session.proofs.Acting.{turned_first, turned_not, refuses, looked}
+use Rattle.session.proofs.Serving.{by_paper, refused_handled, wrote_handled}
 use Rattle.session.proofs.Looking.{fits_now}
 use Rattle.session.proofs.Striking.{few_enough, length_swept}
 use Rattle.session.proofs.Writing.{noted_too}
@@ -44,27 +49,27 @@ module _ (cs ps : List ℕ) (held : Held cs ps) (k : ℕ) where
       subst (λ r. Acted cs ps (change k) cs ps r) says
       (looked cs ps (change k) held (turned_not (limits_of ps) (desk_of cs ps) (change k) refl (rw (there h) refl) (fits_now cs ps held)) refl refl)
 
-  turned_is : (v : Verdict) → turned_by (desk_of cs ps) (verdict_call v k) ≡ pick (ltb k (length (paper_of cs ps).changes)) (pick (eqb (became (paper_of cs ps) k) 0) 0 6) 5
+  turned_is : (v : Verdict) → turned_by (desk_of cs ps) (decided v k) ≡ pick (ltb k (length (paper_of cs ps).changes)) (pick (eqb (became (paper_of cs ps) k) 0) 0 6) 5
   unfolding turned_by
   turned_is Accepted = refl
   turned_is Rejected = refl
 
-  good_is : (v : Verdict) → good_call (limits_of ps) (verdict_call v k) ≡ true
+  good_is : (v : Verdict) → good_call (limits_of ps) (decided v k) ≡ true
   unfolding call_number good_fields
   good_is Accepted = refl
   good_is Rejected = refl
 
-  nowhere : (v : Verdict) (m : ℕ) → place (verdict_call v k) m ≡ 0
+  nowhere : (v : Verdict) (m : ℕ) → place (decided v k) m ≡ 0
   unfolding place
   nowhere Accepted m = refl
   nowhere Rejected m = refl
 
-  wrote_is : (v : Verdict) → writes (verdict_call v k) ≡ true
+  wrote_is : (v : Verdict) → writes (decided v k) ≡ true
   unfolding writes
   wrote_is Accepted = refl
   wrote_is Rejected = refl
 
-  told_is : (v : Verdict) → told (desk_of cs ps) (verdict_call v k) ≡ number (touched (paper_of cs ps).cells k)
+  told_is : (v : Verdict) → told (desk_of cs ps) (decided v k) ≡ number (touched (paper_of cs ps).cells k)
   unfolding told
   told_is Accepted = refl
   told_is Rejected = refl
@@ -72,14 +77,14 @@ module _ (cs ps : List ℕ) (held : Held cs ps) (k : ℕ) where
   abbrev after_it : Verdict → Paper
   after_it v = record { cells = swept (verdict_action v k) (paper_of cs ps).changes (paper_of cs ps).cells; changes = with_became (paper_of cs ps).changes k (verdict_number v) }
 
-  rewritten_is : (v : Verdict) → rewritten (paper_of cs ps) (verdict_call v k) ≡ after_it v
+  rewritten_is : (v : Verdict) → rewritten (paper_of cs ps) (decided v k) ≡ after_it v
   unfolding rewritten
   rewritten_is Accepted =
       ap (λ (xs : List Cell). record { cells = xs; changes = with_became (paper_of cs ps).changes k 1 }) ((one_meaning (paper_of cs ps).changes (paper_of cs ps).cells).0 k)
   rewritten_is Rejected =
       ap (λ (xs : List Cell). record { cells = xs; changes = with_became (paper_of cs ps).changes k 2 }) ((one_meaning (paper_of cs ps).changes (paper_of cs ps).cells).1 k)
 
-  fit : (v : Verdict) → fits (limits_of ps) (rewritten (paper_of cs ps) (verdict_call v k)) ≡ true
+  fit : (v : Verdict) → fits (limits_of ps) (rewritten (paper_of cs ps) (decided v k)) ≡ true
   fit v =
       let ys : List Cell = swept (verdict_action v k) (paper_of cs ps).changes (paper_of cs ps).cells in
       let x : leb (length ys) (get_or ps 0 0) ≡ true = few_enough cs ps held ys (length_swept (verdict_action v k) (paper_of cs ps).changes (paper_of cs ps).cells) in
@@ -88,31 +93,39 @@ module _ (cs ps : List ℕ) (held : Held cs ps) (k : ℕ) where
       let y : leb (length (with_became (paper_of cs ps).changes k (verdict_number v))) (get_or ps 1 0) ≡ true = le-leb (length (with_became (paper_of cs ps).changes k (verdict_number v))) (get_or ps 1 0) (omega (arith, held.changes_fit)) in
       ap (λ (p : Paper). fits (limits_of ps) p) (rewritten_is v) ∙ ap₂ ◌&&◌ x y
 
-  refused_so : (v : Verdict) (m : ℕ) → turned_by (desk_of cs ps) (verdict_call v k) ≡ suc m → Acted cs ps (verdict_call v k) cs ps (refused (suc m) 0)
-  refused_so v m t =
-      subst (λ (i : ℕ). Acted cs ps (verdict_call v k) cs ps (refused (suc m) i)) (nowhere v (suc m))
-      (refuses cs ps (verdict_call v k) m held (turned_first (limits_of ps) (desk_of cs ps) (verdict_call v k) m (good_is v) t))
+  by_it : (v : Verdict) → by_paper (decided v k) ≡ true
+  by_it Accepted = refl
+  by_it Rejected = refl
 
-  pub decide_none : (v : Verdict) → get_or ps 3 0 ≤ k → Acted cs ps (verdict_call v k) cs ps (refused 5 0)
-  decide_none v h = refused_so v 4 (turned_is v ∙ rw (absent h) refl)
+  refused_so : (us : List ℕ) (v : Verdict) (m : ℕ) → turned_by (desk_of cs ps) (decided v k) ≡ suc m → Handled cs ps us (decided v k) cs ps us (answer_bytes (refused (suc m) 0))
+  refused_so us v m t =
+      subst (λ (i : ℕ). Handled cs ps us (decided v k) cs ps us (answer_bytes (refused (suc m) i))) (nowhere v (suc m))
+      (refused_handled cs ps us (decided v k) (by_it v) m (turned_first (limits_of ps) (desk_of cs ps) (decided v k) m (good_is v) t))
+
+  pub decide_none : (us : List ℕ) (v : Verdict) → get_or ps 3 0 ≤ k → Handled cs ps us (decided v k) cs ps us (answer_bytes (refused 5 0))
+  decide_none us v h = refused_so us v 4 (turned_is v ∙ rw (absent h) refl)
 
   became_is : (x : Change) → k < get_or ps 3 0 → x ≡ change_at (drop 16 ps) k → became (paper_of cs ps) k ≡ x.became
   became_is x h is = ap (λ (y : Change). y.became) (change_here (record { author = 0; became = 3 }) h ∙ sym is)
 
-  pub decide_closed : (v : Verdict) (x : Change) → k < get_or ps 3 0 → x ≡ change_at (drop 16 ps) k → (x.became ≡ 0 → ⊥) → Acted cs ps (verdict_call v k) cs ps (refused 6 0)
-  decide_closed v x h is closed =
+  pub decide_closed : (us : List ℕ) (v : Verdict) (x : Change) → k < get_or ps 3 0 → x ≡ change_at (drop 16 ps) k → (x.became ≡ 0 → ⊥) →
+      Handled cs ps us (decided v k) cs ps us (answer_bytes (refused 6 0))
+  decide_closed us v x h is closed =
       let b : eqb (became (paper_of cs ps) k) 0 ≡ false = ne_eqb (became (paper_of cs ps) k) 0 (λ e. closed (sym (became_is x h is) ∙ e)) in
-      refused_so v 5 (turned_is v ∙ rw (there h, b) refl)
+      refused_so us v 5 (turned_is v ∙ rw (there h, b) refl)
 
-  pub decided : (v : Verdict) (x : Change) {cs' ps' ds qs : List ℕ} → k < get_or ps 3 0 → x ≡ change_at (drop 16 ps) k → x.became ≡ 0 →
-      Wrote cs ps cs' ps' (with_cells (paper_of cs ps) (swept (verdict_action v k) (row_of ps) (paper_of cs ps).cells)) →
-      Wrote cs' ps' ds qs (with_changes (paper_of cs' ps') (with_became (paper_of cs' ps').changes k (verdict_number v))) →
-      Acted cs ps (verdict_call v k) ds qs (number (touched (paper_of cs ps).cells k))
-  decided v x {ds = ds} {qs = qs} h is open-still w note =
-      let p : Paper = paper_of cs ps in
-      let b : eqb (became p k) 0 ≡ true = eq-eqb (became p k) 0 (became_is x h is ∙ open-still) in
-      let t : turned (limits_of ps) (desk_of cs ps) (verdict_call v k) ≡ 0 =
-      turned_not (limits_of ps) (desk_of cs ps) (verdict_call v k) (good_is v) (turned_is v ∙ rw (there h, b) refl) (fit v) in
-      let done : Wrote cs ps ds qs (rewritten p (verdict_call v k)) =
-      subst (λ (r : Paper). Wrote cs ps ds qs r) (sym (rewritten_is v)) (noted_too p (λ (rs : List Change). with_became rs k (verdict_number v)) w note) in
-      subst (λ r. Acted cs ps (verdict_call v k) ds qs r) (told_is v) (wrote_it cs ps ds qs (verdict_call v k) t (wrote_is v) done)
+  -- the cells and then what became of the change were written
+  pub verdict_written : (v : Verdict) {cs' ps' ds qs : List ℕ} →
+      Wrote cs ps cs' ps' (with_cells (paper_of cs ps) (swept (verdict_action v k) (paper_of cs ps).changes (paper_of cs ps).cells)) →
+      Wrote cs' ps' ds qs (with_changes (paper_of cs' ps') (with_became (paper_of cs' ps').changes k (verdict_number v))) → Wrote cs ps ds qs (rewritten (paper_of cs ps) (decided v k))
+  verdict_written v {ds = ds} {qs = qs} w note =
+      subst (λ (r : Paper). Wrote cs ps ds qs r) (sym (rewritten_is v)) (noted_too (paper_of cs ps) (λ (rs : List Change). with_became rs k (verdict_number v)) w note)
+
+  pub decide_done : {us vs : List ℕ} (v : Verdict) (x : Change) {ds qs : List ℕ} → k < get_or ps 3 0 → x ≡ change_at (drop 16 ps) k → x.became ≡ 0 →
+      Recorded us vs (get_or ps 2 0) (entry_of (paper_of cs ps) (decided v k)) → Wrote cs ps ds qs (rewritten (paper_of cs ps) (decided v k)) →
+      Handled cs ps us (decided v k) ds qs vs (answer_bytes (number (touched (paper_of cs ps).cells k)))
+  decide_done {us} {vs} v x {ds} {qs} h is open-still note w =
+      let b : eqb (became (paper_of cs ps) k) 0 ≡ true = eq-eqb (became (paper_of cs ps) k) 0 (became_is x h is ∙ open-still) in
+      let t : turned (limits_of ps) (desk_of cs ps) (decided v k) ≡ 0 =
+      turned_not (limits_of ps) (desk_of cs ps) (decided v k) (good_is v) (turned_is v ∙ rw (there h, b) refl) (fit v) in
+      subst (λ r. Handled cs ps us (decided v k) ds qs vs (answer_bytes r)) (told_is v) (wrote_handled cs ps us (decided v k) (by_it v) t (wrote_is v) note w)

@@ -171,6 +171,7 @@ enough l m d x =
     ap length words ∙ (length-append x.pieces (x.cells ++ x.undo) ∙ ap (λ (n : ℕ). length x.pieces + n) (length-append x.cells x.undo)) in
     let a : get_or x.pieces 0 0 ≡ l.cells = ap (λ (n : Limits). n.cells) x.limits in
     let b : get_or x.pieces 1 0 ≡ l.changes = ap (λ (n : Limits). n.changes) x.limits in
+    let o : get_or x.pieces 2 0 ≡ l.undos = ap (λ (n : Limits). n.undos) x.limits in
     let low : (length m.words ≤ 8 * l.cells + 8 * l.changes + 16 * l.undos + 65536) = omega arith in
     let high : all_below 4294967296 (x.pieces ++ (x.cells ++ x.undo)) ≡ true =
     all_below_at (x.pieces ++ (x.cells ++ x.undo)) (at_append x.pieces (x.cells ++ x.undo) x.fit.1 (at_append x.cells x.undo x.fit.0 x.fit.2)) in

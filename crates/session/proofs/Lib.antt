@@ -6,6 +6,7 @@ mod Looking
 mod Opening
 mod Putting
 mod Ranges
+mod Reversing
 mod Saying
 mod Serving
 mod Striking

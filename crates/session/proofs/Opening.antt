@@ -1,13 +1,17 @@
 -- What opening leaves in memory. Assumes nothing.
-use Rattle.std.proofs.Common.{◌≡◌, ℕ, suc, ◌+◌, ◌-◌, ◌*◌, ◌≤◌, List, [], ◌∷◌, ◌++◌, length, get_or, take, drop, set, replicate, sym, refl, ap, ◌∙◌, arith}
+use Rattle.std.proofs.Common.{◌≡◌, ℕ, suc, ◌+◌, ◌-◌, ◌*◌, ◌≤◌, List, [], ◌∷◌, ◌++◌, length, get_or, take, drop, set, replicate, sym, refl, ap, ◌∙◌, subst, arith}
 use borrow.Rule.Slice.PartMut.{put_mid}
 use Rattle.std.specs.List.{range_with_len}
 use Rattle.std.proofs.lemmas.List.{length-append, length-replicate, length-drop, take_at, drop_at, append_assoc, drop_all, drop-drop, append-nil}
+use Rattle.model.specs.Paper.{Paper}
 use Rattle.model.specs.Calls.{new_desk}
 use Rattle.changes.specs.Row.{changes_from}
+use Rattle.history.specs.Steps.{StandsFor}
+use Rattle.history.specs.Log.{Log}
+use Rattle.history.proofs.Stepping.{opens}
 use Rattle.pieces.specs.Store.{Store, cells_of, cleared_words}
 use Rattle.pieces.proofs.Cleared.{cleared_long}
-use Rattle.session.specs.Memory.{slots_for, cells_words, pieces_words, tables, Stands, opened_pieces}
+use Rattle.session.specs.Memory.{slots_for, cells_words, pieces_words, limits_of, tables, paper_of, Stands, opened_pieces}
 
 -- the limits and no change
 abbrev pub head : ℕ → ℕ → ℕ → List ℕ
@@ -64,9 +68,9 @@ module _ (n c u : ℕ) (ps begun-words after-tables : List ℕ)
       ap length clears ∙ (cleared_long (drop (16 + 2 * c) begun-words) (slots_for n) (omega arith) (omega arith) ∙ l)
 
   pub stands : (cs us : List ℕ) → n ≤ 1000000 → c ≤ 65536 → u ≤ 1000000 → cells_words n ≤ length cs → pieces_words c ≤ length ps →
-      Store cs after-tables (slots_for n) → cells_of cs after-tables (slots_for n) ≡ [] → Stands cs words us new_desk
+      Store cs after-tables (slots_for n) → cells_of cs after-tables (slots_for n) ≡ [] → Log us u [] [] → Stands cs words us new_desk
   unfolding changes_from
-  stands cs us small_n small-c small-u long-cs long-ps store empty =
+  stands cs us small_n small-c small-u long-cs long-ps store empty log =
       let h = length_head n c u in
       let is : words ≡ head n c u ++ after-tables = words_are in
       let g0 : get_or words 0 0 ≡ n = ap (λ (xs : List ℕ). get_or xs 0 0) is in
@@ -81,6 +85,8 @@ module _ (n c u : ℕ) (ps begun-words after-tables : List ℕ)
       let st : Store cs (tables words) (slots_for (get_or words 0 0)) = rw (t, s) store in
       let none : cells_of cs (tables words) (slots_for (get_or words 0 0)) ≡ [] = rw (t, s) empty in
       let long : length after-tables ≡ length ps - (16 + 2 * c) = cleared_length small_n long-ps in
+      let paper : paper_of cs words ≡ record { cells = []; changes = [] } = rw (none, g3) refl in
+      let desk : StandsFor (limits_of words) (paper_of cs words) [] [] new_desk = subst (λ (p : Paper). StandsFor (limits_of words) p [] [] new_desk) (sym paper) (opens (limits_of words)) in
       record {
         sound = record {
           held = record {
@@ -93,7 +99,11 @@ module _ (n c u : ℕ) (ps begun-words after-tables : List ℕ)
             cells_fit = rw none (omega arith);
             changes_fit = omega arith;
           };
-          undo_long = omega arith;
+          undo_long = omega (arith, g2, log.long);
+          back = [];
+          ahead = [];
+          log = subst (λ (m : ℕ). Log us m [] []) (sym g2) log;
+          sane = desk.sane;
         };
-        paper = rw (none, g3) refl;
+        desk = desk;
       }

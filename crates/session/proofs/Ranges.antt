@@ -9,7 +9,7 @@ use Rattle.codec.specs.Values.{meaning}
 use Rattle.codec.specs.declared.Call.{Call}
 use Rattle.codec.specs.declared.Call.TheVariants.{Put, Strike, Accept, Reject, Style, Undo, Redo, Show, Find, Count, Change, Save}
 use Rattle.session.specs.Memory.{stage, limits_of}
-use Rattle.session.specs.Range.{in_range, is_show}
+use Rattle.session.specs.Range.{in_range, is_long}
 
 abbrev pub good : ℕ → Bool
 good l = eqb l 10 || (leb 32 l && leb l 126)
@@ -36,6 +36,11 @@ in_range_is (Count k) ls = refl
 in_range_is (Change c) ls = refl
 in_range_is (Save i n) ls = refl
 
+-- tests that hold together
+pub both_true : (a b : Bool) → (a && b) ≡ true → (a ≡ true) × (b ≡ true)
+both_true true b h = (refl, h)
+both_true false b h = let z : ◌≡◌ {A = Bool} false true = h in (z, cc)
+
 and_false : (b : Bool) → (b && false) ≡ false
 and_false true = refl
 and_false false = refl
@@ -44,19 +49,19 @@ and_false false = refl
 pub out_is_bad : (ps : List ℕ) (c : Call) (ls : List ℕ) → in_range c ls ≡ false → good_call (limits_of ps) (meaning c ls) ≡ false
 out_is_bad ps c ls h = ap (λ (b : Bool). stage (call_number (meaning c ls)) && b) (sym (in_range_is c ls) ∙ h) ∙ and_false (stage (call_number (meaning c ls)))
 
-pub not_shown : (c : Call) → ((k w r n : ℕ) → c ≡ Show k w r n → ⊥) → is_show c ≡ false
-not_shown (Put a i s) h = refl
-not_shown (Strike a i n) h = refl
-not_shown (Accept c) h = refl
-not_shown (Reject c) h = refl
-not_shown (Style i n s) h = refl
-not_shown Undo h = refl
-not_shown Redo h = refl
-not_shown (Show k w r n) h = absurd (h k w r n refl)
-not_shown (Find k i) h = refl
-not_shown (Count k) h = refl
-not_shown (Change c) h = refl
-not_shown (Save i n) h = refl
+pub not_long : (c : Call) → ((k w r n : ℕ) → c ≡ Show k w r n → ⊥) → ((i n : ℕ) → c ≡ Save i n → ⊥) → is_long c ≡ false
+not_long (Put a i s) h g = refl
+not_long (Strike a i n) h g = refl
+not_long (Accept c) h g = refl
+not_long (Reject c) h g = refl
+not_long (Style i n s) h g = refl
+not_long Undo h g = refl
+not_long Redo h g = refl
+not_long (Show k w r n) h g = absurd (h k w r n refl)
+not_long (Find k i) h g = refl
+not_long (Count k) h g = refl
+not_long (Change c) h g = refl
+not_long (Save i n) h g = absurd (g i n refl)
 
 -- every way to look can be asked for
 pub way_good : (w : Way) → good_fields (count (way_number w)) ≡ true

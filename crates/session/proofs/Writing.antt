@@ -81,17 +81,16 @@ restored {cs = cs} {ps = ps} {cs' = cs'} {t = t} {ds = ds} {head = head} {td = t
 
 -- the row of changes as it stands before the tables
 pub row_before : (ps head : List ℕ) → head ≡ take (16 + 2 * get_or ps 1 0) ps → get_or ps 3 0 ≤ get_or ps 1 0 →
-    changes_of (take (length head - 16) (drop 16 head)) (get_or head 3 0) ≡ changes_of (drop 16 ps) (get_or ps 3 0)
+    changes_of (drop 16 head) (get_or head 3 0) ≡ changes_of (drop 16 ps) (get_or ps 3 0)
 row_before ps head is few =
     let b : ℕ = 16 + 2 * get_or ps 1 0 in
     let at : (i : ℕ) → i < b → get_or head i 0 ≡ get_or ps i 0 = λ i h. ap (λ (ws : List ℕ). get_or ws i 0) is ∙ get_or-take b ps i 0 h in
-    rw take_rest
-    (ap (λ (k : ℕ). changes_of (drop 16 head) k) (at 3 (omega arith))
+    ap (λ (k : ℕ). changes_of (drop 16 head) k) (at 3 (omega arith))
     ∙ changes_same (drop 16 head) (drop 16 ps) 0 (get_or ps 3 0)
-    (λ i low high. get_or-drop 16 head i 0 ∙ (at (16 + i) (omega arith) ∙ sym (get_or-drop 16 ps i 0))))
+    (λ i low high. get_or-drop 16 head i 0 ∙ (at (16 + i) (omega arith) ∙ sym (get_or-drop 16 ps i 0)))
 
 -- the row of changes was written
-rowed : (cs ps qs : List ℕ) (rows : List Change) → Held cs ps → Rowed ps qs rows → Wrote cs ps cs qs (with_changes (paper_of cs ps) rows)
+pub rowed : (cs ps qs : List ℕ) (rows : List Change) → Held cs ps → Rowed ps qs rows → Wrote cs ps cs qs (with_changes (paper_of cs ps) rows)
 rowed cs ps qs rows held note =
     let g0 : get_or qs 0 0 ≡ get_or ps 0 0 = ap (λ (l : Limits). l.cells) note.limits in
     let g1 : get_or qs 1 0 ≡ get_or ps 1 0 = ap (λ (l : Limits). l.changes) note.limits in

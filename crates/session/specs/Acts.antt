@@ -1,14 +1,15 @@
 -- What the functions under `call` promise: they know the paper's part of memory alone. Definitions only: nothing is assumed.
-use Rattle.std.specs.Prelude.{◌≡◌, ℕ, ◌<◌, ◌≤◌, Bool, ◌&&◌, List, [], ◌++◌, length, drop, nat_le, nat_lt, slice_index, slice_index_or}
+use Rattle.std.specs.Prelude.{◌≡◌, ℕ, ◌<◌, ◌≤◌, Bool, ◌&&◌, List, [], length, drop, nat_le, nat_lt, slice_index, slice_index_or}
 use Rattle.model.specs.Paper.{Cell, Change, Paper}
-use Rattle.model.specs.Calls.{Call, accepts, rejects, Answer, Desk, turned, after, answer}
+use Rattle.model.specs.Calls.{Call, Answer, Desk, turned, after, answer}
 use Rattle.sweep.specs.declared.Action.{Action}
 use Rattle.sweep.specs.declared.Action.TheVariants.{Accept, Reject}
 use Rattle.model.specs.declared.verdict.Verdict.{Verdict}
 use Rattle.model.specs.declared.verdict.Verdict.TheVariants.{Accepted, Rejected}
-use Rattle.codec.specs.Bytes.{answer_bytes}
 use Rattle.changes.specs.Row.{changes_of}
-use Rattle.session.specs.Memory.{cells_words, pieces_words, limits_of, tables as tables_of, paper_of, Held}
+use Rattle.history.specs.Entry.{Entry}
+use Rattle.recorder.specs.Records.{Records}
+use Rattle.session.specs.Memory.{cells_words, pieces_words, undo_words, limits_of, tables as tables_of, paper_of, Held}
 
 -- memory now holds the paper p; the limits and the words beyond are as they were
 pub record Wrote (cs ps cs' ps' : List ℕ) (p : Paper) : Type 0 where
@@ -54,18 +55,13 @@ with_changes p rows = record { cells = p.cells; changes = rows }
 abbrev pub allows : List ℕ → ℕ → Bool
 allows ps cells = nat_le cells (slice_index ps 0) && nat_lt (slice_index ps 3) (slice_index ps 1)
 
--- a call was done or turned away, and its answer stands in the first r bytes of out; the bytes after them are as they were
-pub record Said (cs ps : List ℕ) (c : Call) (cs' ps' out out' : List ℕ) (r : ℕ) : Type 0 where
-  pub acted : Acted cs ps c cs' ps' (answer (limits_of ps) (desk_of cs ps) c)
-  pub bytes : out' ≡ answer_bytes (answer (limits_of ps) (desk_of cs ps) c) ++ drop r out
-  pub long : r ≡ length (answer_bytes (answer (limits_of ps) (desk_of cs ps) c))
+-- the entry e was written into the log, which keeps entries up to a limit; the words beyond are as they were
+pub record Recorded (us us' : List ℕ) (limit : ℕ) (e : Entry) : Type 0 where
+  pub records : Records us us' limit e
+  pub beyond : drop (undo_words limit) us' ≡ drop (undo_words limit) us
+  pub undo_length : length us' ≡ length us
 
--- the call that a verdict is
-abbrev pub verdict_call : Verdict → ℕ → Call
-verdict_call Accepted c = accepts c
-verdict_call Rejected c = rejects c
-
--- what it does to the cells
+-- what a verdict does to the cells
 abbrev pub verdict_action : Verdict → ℕ → Action
 verdict_action Accepted c = Accept c
 verdict_action Rejected c = Reject c

@@ -30,6 +30,11 @@ pub record Beyond (cs ps us cs' ps' us' : List ℕ) (l : Limits) : Type 0 where
   pub pieces_length : length ps' ≡ length ps
   pub undo_length : length us' ≡ length us
 
+-- A call that could be read, at every desk that memory stands for; rs are the bytes of its answer.
+pub record Handled (cs ps us : List ℕ) (c : Call) (cs' ps' us' rs : List ℕ) : Type 0 where
+  pub does : (d : Desk) → Stands cs ps us d → Done cs ps us d c cs' ps' us' rs
+  pub beyond : Beyond cs ps us cs' ps' us' (limits_of ps)
+
 -- every word fits four bytes
 abbrev pub Fit : List ℕ → List ℕ → List ℕ → Type 0
 Fit cs ps us = ((i : ℕ) → slice_index cs i < 4294967296) × ((i : ℕ) → slice_index ps i < 4294967296) × ((i : ℕ) → slice_index us i < 4294967296)

@@ -1,17 +1,21 @@
 -- What lent memory is: three slices of words, of which each is at least as long as the limits ask for.
 -- cells: the slots of the store. pieces: 0 to 2 the limits, 3 how many changes there are, 4 to 15 not used (opening makes them 0, and no call tells of
--- them); from 16 on the changes, two words each, for as many as the limit allows; after them the tables of the store. undo: nothing in this stage.
+-- them); from 16 on the changes, two words each, for as many as the limit allows; after them the tables of the store. undo: the log of what can be undone.
 -- Definitions only: nothing is assumed.
-use Rattle.std.specs.Prelude.{◌≡◌, ℕ, ◌+◌, ◌-◌, ◌*◌, ◌/◌, ◌≤◌, Bool, ◌||◌, List, ◌∷◌, ◌++◌, length, drop, replicate, ◌==◌, nat_le, slice_index, slice_index_or}
+use Rattle.std.specs.Prelude.{ℕ, ◌+◌, ◌-◌, ◌*◌, ◌/◌, ◌≤◌, Bool, List, ◌∷◌, ◌++◌, length, drop, replicate, slice_index, slice_index_or}
 use Rattle.std.specs.List.{range_with_len}
 use Rattle.model.specs.Paper.{Paper}
 use Rattle.model.specs.Calls.{Desk, Limits}
+use Rattle.model.specs.Promise.{whole}
 use Rattle.changes.specs.Row.{changes_of}
+use Rattle.history.specs.Entry.{Entry}
+use Rattle.history.specs.Steps.{Sane, StandsFor}
+use Rattle.history.specs.Log.{Log}
 use Rattle.pieces.specs.Store.{Store, cells_of}
 
--- which calls can be done, by number: all but undo, redo, find and save
+-- which calls can be done, by number: all twelve
 abbrev pub stage : ℕ → Bool
-stage k = nat_le k 4 || (k == 7 || (k == 9 || k == 10))
+stage = whole
 
 -- how many slots of 1,024 cells there are for so many cells
 abbrev pub slots_for : ℕ → ℕ
@@ -25,7 +29,7 @@ abbrev pub pieces_words : ℕ → ℕ
 pieces_words c = 10256 + 2 * c
 
 abbrev pub undo_words : ℕ → ℕ
-undo_words u = 0
+undo_words u = 16 + 16 * u
 
 -- the limits that memory was opened with
 abbrev pub limits_of : List ℕ → Limits
@@ -54,17 +58,22 @@ pub record Held (cs ps : List ℕ) : Type 0 where
   pub cells_fit : length (paper_of cs ps).cells ≤ slice_index ps 0
   pub changes_fit : slice_index_or ps 3 0 ≤ slice_index ps 1
 
--- what always holds of memory
+-- What always holds of memory. The log has an entry for each call that can be undone (`back`, the latest first) or done again (`ahead`, the last undone
+-- first), and each entry is that of its call where it stands.
 pub record Sound (cs ps us : List ℕ) : Type 0 where
   pub held : Held cs ps
   pub undo_long : undo_words (slice_index ps 2) ≤ length us
+  pub back : List Entry
+  pub ahead : List Entry
+  pub log : Log us (slice_index ps 2) back ahead
+  pub sane : Sane (limits_of ps) (paper_of cs ps) back ahead
 
--- Memory stands for a desk. No call of this stage can tell of what could be undone or redone, so that nothing is said of it.
+-- Memory stands for a desk: the paper is the desk's, and what its entries bring back is what the desk can undo and redo.
 pub record Stands (cs ps us : List ℕ) (d : Desk) : Type 0 where
   pub sound : Sound cs ps us
-  pub paper : d.now ≡ paper_of cs ps
+  pub desk : StandsFor (limits_of ps) (paper_of cs ps) sound.back sound.ahead d
 
--- What opening leaves: in the cells 0 throughout; in the pieces the limits, no change, and the tables of an empty store.
+-- What opening leaves: in the cells 0 throughout; in the pieces the limits, no change, and the tables of an empty store; in the log 0 throughout.
 abbrev pub opened_cells : ℕ → List ℕ
 opened_cells n = replicate (cells_words n) 0
 

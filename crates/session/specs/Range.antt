@@ -4,20 +4,20 @@ use Rattle.model.specs.Calls.{good_letters}
 use Rattle.codec.specs.declared.Call.{Call}
 use Rattle.codec.specs.declared.Call.TheVariants.{Put, Strike, Accept, Reject, Style, Undo, Redo, Show, Find, Count, Change, Save}
 
--- the call whose answer is rows
-abbrev pub is_show : Call → Bool
-is_show (Put author place style) = false
-is_show (Strike author place count) = false
-is_show (Accept change) = false
-is_show (Reject change) = false
-is_show (Style place count style) = false
-is_show Undo = false
-is_show Redo = false
-is_show (Show way width row count) = true
-is_show (Find way from) = false
-is_show (Count way) = false
-is_show (Change change) = false
-is_show (Save from count) = false
+-- the calls whose answers are long: rows, and numbers of the file
+abbrev pub is_long : Call → Bool
+is_long (Put author place style) = false
+is_long (Strike author place count) = false
+is_long (Accept change) = false
+is_long (Reject change) = false
+is_long (Style place count style) = false
+is_long Undo = false
+is_long Redo = false
+is_long (Show way width row count) = true
+is_long (Find way from) = false
+is_long (Count way) = false
+is_long (Change change) = false
+is_long (Save from count) = true
 
 -- at least one, and at most so many
 abbrev pub counted : ℕ → ℕ → Bool

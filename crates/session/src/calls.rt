@@ -1,13 +1,13 @@
 // A call that could be read: it is done, or refused. The checks run in the order of the refusals' numbers.
 ghost use Rattle.std.specs.Prelude.{◌≡◌, ◌≤◌, true, false, length};
-ghost use Rattle.model.specs.Calls.{count as counts, good_fields, number, put as puts, show as shows};
+ghost use Rattle.model.specs.Calls.{count as counts, find as finds, good_fields, number, put as puts, save as saves, show as shows};
 ghost use Rattle.model.specs.Values.{way_number};
 ghost use Rattle.codec.specs.Values.{meaning};
-ghost use Rattle.session.specs.Range.{is_show};
+ghost use Rattle.session.specs.Range.{is_long};
 
 use crate::deciding::run_in;
 use crate::desk::Desk;
-use crate::{Refusal, cells, range};
+use crate::{Refusal, range};
 use codec::{Answer, Call};
 use model::{Verdict, Way};
 
@@ -21,12 +21,13 @@ pub struct Rows {
 }
 
 impl<'a> Desk<'a> {
-    ghost use Rattle.session.specs.Desks.{Acts, Ended, Looks, Serves};
+    ghost use Rattle.session.specs.Desks.{Acts, InOrder, Looks, Serves, Tells};
     ghost use Rattle.session.specs.Refusals.{outcome};
 
     /// Does a call, or refuses it. The answer is written into the first bytes of `answer`, and how many those are is returned.
     pub fn serve(&mut self, call: Call, letters: &[u8], answer: &mut [u8]) -> Result<usize, Refusal>
-        requires { 262405 ≤ length answer.old }
+        requires sound { InOrder self.old }
+        requires room { 262405 ≤ length answer.old }
         ensures { Serves self.old self.new (meaning call letters.now) answer.old answer.new result }
     {
         if !range::within(call, letters) {
@@ -48,6 +49,7 @@ impl<'a> Desk<'a> {
                 };
                 self.show(rows, answer)
             }
+            Call::Save { from, count } => self.save(from, count, answer),
             _ => {
                 let short = self.act(call, letters)?;
                 Ok(codec::write(short, answer))
@@ -55,11 +57,12 @@ impl<'a> Desk<'a> {
         }
     }
 
-    /// Does a call in range whose answer is short, or refuses it. A call that this stage cannot do is out of range.
+    /// Does a call in range whose answer is short, or refuses it.
     /// (That the numbers are in range is asked of the fields of each call, here and below: a type for a call in range would be taken apart at once.)
     fn act(&mut self, call: Call, letters: &[u8]) -> Result<Answer, Refusal>
+        requires sound { InOrder self.old }
         requires good { good_fields (meaning call letters.now) ≡ true }
-        requires short { is_show call ≡ false }
+        requires short { is_long call ≡ false }
         ensures { Acts self.old self.new (meaning call letters.now) (outcome result) }
     {
         match call {
@@ -85,12 +88,13 @@ impl<'a> Desk<'a> {
                 Ok(Answer::Number(self.count(way)))
             }
             Call::Change { change } => self.ask(change),
-            Call::Show { .. } => unreachable!(),
-            // Four arms and no `|`, as the proof of one arm for all of them did not close.
-            Call::Undo => Err(Refusal::OutOfRange),
-            Call::Redo => Err(Refusal::OutOfRange),
-            Call::Find { .. } => Err(Refusal::OutOfRange),
-            Call::Save { .. } => Err(Refusal::OutOfRange),
+            Call::Undo => self.undo(),
+            Call::Redo => self.redo(),
+            Call::Find { way, from } => {
+                let way = Way::try_from(way)?;
+                Ok(Answer::Number(self.find(way, from, letters)))
+            }
+            Call::Show { .. } | Call::Save { .. } => unreachable!(),
         }
     }
 
@@ -102,6 +106,7 @@ impl<'a> Desk<'a> {
         style: u32,
         letters: &[u8],
     ) -> Result<Answer, Refusal>
+        requires sound { InOrder self.old }
         requires good { good_fields (puts author place style letters.now) ≡ true }
         ensures { Acts self.old self.new (puts author place style letters.now) (outcome result) }
     {
@@ -110,8 +115,9 @@ impl<'a> Desk<'a> {
             return Err(Refusal::NoSuchCells { field: 1 });
         };
         let number = self.room(count + letters.len())?;
-        cells::insert(self.cells, self.pieces, at, letters, style, number);
-        self.add_change(author);
+        let limit = self.pieces[2];
+        recorder::put(self.undo, limit, author, place, style, letters);
+        self.write_put(author, at, style, letters);
         Ok(Answer::Number(number))
     }
 
@@ -122,11 +128,33 @@ impl<'a> Desk<'a> {
         layout::count(&self.text(), way) as u32
     }
 
+    /// One more than the place in a way to look at which the letters first stand, at or after `from`; or 0.
+    fn find(&self, way: Way, from: u32, letters: &[u8]) -> u32
+        requires { good_fields (finds (way_number way) from letters.now) ≡ true }
+        ensures { Looks self.now (finds (way_number way) from letters.now) (number result) }
+    {
+        match search::find(&self.text(), way, from, letters) {
+            Some(place) => place + 1,
+            None => 0,
+        }
+    }
+
+    /// Numbers of the paper's file, from one on: the whole answer is written, and its length is returned.
+    fn save(&self, from: u32, count: u32, answer: &mut [u8]) -> Result<usize, Refusal>
+        requires sound { InOrder self.now }
+        requires good { good_fields (saves from count) ≡ true }
+        requires room { 262405 ≤ length answer.old }
+        ensures { Tells self.now (saves from count) answer.old answer.new result }
+    {
+        saving::save(&self.text(), &self.row(), from, count, answer).ok_or(Refusal::NoSuchNumbers)
+    }
+
     /// Rows of a width in a way to look: the whole answer is written, and its length is returned.
     fn show(&self, rows: Rows, answer: &mut [u8]) -> Result<usize, Refusal>
+        requires sound { InOrder self.now }
         requires good { good_fields (shows (way_number rows.way) rows.width rows.first rows.count) ≡ true }
         requires room { 262405 ≤ length answer.old }
-        ensures { Ended self.now.cells.now self.now.pieces.now (shows (way_number rows.way) rows.width rows.first rows.count) self.now.cells.now self.now.pieces.now answer.old answer.new result }
+        ensures { Tells self.now (shows (way_number rows.way) rows.width rows.first rows.count) answer.old answer.new result }
     {
         // Apart again, as the contract of `layout::show` speaks of each of them.
         layout::show(

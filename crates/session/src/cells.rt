@@ -1,13 +1,14 @@
-// Changes of the text in the desk's memory. These are functions of both slices and not methods of `Desk`: that a part of one field is lent while the
-// other field is used gets no proof yet.
+// Changes of the text in the desk's memory. These are functions of the slices and not methods of `Desk`: that a part of one field is lent while
+// another field is used gets no proof yet.
 ghost use Rattle.std.specs.Prelude.{◌+◌, ◌<◌, ◌≤◌, ◌++◌, length, take, drop, slice_index};
+ghost use Rattle.history.specs.Entry.{undo_of};
 ghost use Rattle.model.specs.Paper.{new_cells};
 ghost use Rattle.session.specs.Acts.{Wrote, with_cells};
 ghost use Rattle.session.specs.Memory.{Held, paper_of};
+ghost use Rattle.session.specs.Undoing.{CanUndo, entry_in};
 ghost use Rattle.sweep.specs.Sweep.{swept, swept_run};
 
-use crate::desk::{HEAD, slots_in, tables_from};
-use changes::Row;
+use crate::desk::{row_in, slots_in, tables_from};
 use pieces::TextMut;
 use sweep::Action;
 
@@ -47,10 +48,7 @@ pub fn sweep_run(cells: &mut [u32], pieces: &mut [u32], place: usize, n: usize, 
     let slots = slots_in(pieces);
     let from = tables_from(pieces);
     let (head, tables) = pieces.split_at_mut(from);
-    let row = Row {
-        words: &head[HEAD..],
-        len: head[3] as usize,
-    };
+    let row = row_in(head);
     let mut text = TextMut {
         cells,
         tables,
@@ -67,14 +65,28 @@ pub fn sweep_all(cells: &mut [u32], pieces: &mut [u32], action: Action)
     let slots = slots_in(pieces);
     let from = tables_from(pieces);
     let (head, tables) = pieces.split_at_mut(from);
-    let row = Row {
-        words: &head[HEAD..],
-        len: head[3] as usize,
-    };
+    let row = row_in(head);
     let mut text = TextMut {
         cells,
         tables,
         slots,
     };
     sweep::sweep_all(&mut text, &row, action);
+}
+
+/// What the call of the entry at word `at` of the log did to the cells is taken back. (Of the slices, for the reason above.)
+pub fn take_back(cells: &mut [u32], pieces: &mut [u32], undo: &[u32], at: usize)
+    requires held { Held cells.old pieces.old }
+    requires can { CanUndo cells.old pieces.old undo.now at }
+    ensures { Wrote cells.old pieces.old cells.new pieces.new (with_cells (paper_of cells.old pieces.old) (undo_of (entry_in undo.now at) (paper_of cells.old pieces.old)).cells) }
+{
+    let slots = slots_in(pieces);
+    let from = tables_from(pieces);
+    let (_, tables) = pieces.split_at_mut(from);
+    let mut text = TextMut {
+        cells,
+        tables,
+        slots,
+    };
+    restore::undo(&mut text, undo, at);
 }

@@ -2,10 +2,9 @@
 ghost use Rattle.std.specs.Prelude.{◌≡◌, ◌+◌, true, false, Some, None, nat_le};
 
 use crate::desk::Desk;
-use crate::{Refusal, cells};
+use crate::{Refusal, recording};
 use codec::Answer;
 use model::Verdict;
-use sweep::Action;
 
 /// Where a run of cells begins, if all of it is there. A run of none may begin at the end.
 /// A place and how many, as calls have them: a range would be made only to be taken apart.
@@ -21,12 +20,13 @@ pub fn run_in(total: usize, place: u32, count: u32) -> Option<usize>
 
 impl<'a> Desk<'a> {
     ghost use Rattle.model.specs.Calls.{change as asks, good_fields, strikes, styles};
-    ghost use Rattle.session.specs.Acts.{verdict_call};
-    ghost use Rattle.session.specs.Desks.{Acts, Looks};
+    ghost use Rattle.recorder.specs.Records.{decided};
+    ghost use Rattle.session.specs.Desks.{Acts, InOrder, Looks};
     ghost use Rattle.session.specs.Refusals.{outcome};
 
     /// An author strikes out cells, from one on: a new change, whose number is the answer.
     pub fn strike(&mut self, author: u32, place: u32, count: u32) -> Result<Answer, Refusal>
+        requires sound { InOrder self.old }
         requires good { good_fields (strikes author place count) ≡ true }
         ensures { Acts self.old self.new (strikes author place count) (outcome result) }
     {
@@ -35,17 +35,17 @@ impl<'a> Desk<'a> {
             return Err(Refusal::NoSuchCells { field: 1 });
         };
         let number = self.room(total)?;
-        let action = Action::Strike {
-            author,
-            mark: number + 1,
-        };
-        cells::sweep_run(self.cells, self.pieces, at, count as usize, action);
-        self.add_change(author);
+        // Lent again by hand, here and below: of a field that is lent to be read, nothing is known after that.
+        let cells = &mut *self.cells;
+        let pieces = &mut *self.pieces;
+        recording::strike(cells, pieces, self.undo, author, place, count);
+        self.write_strike(author, at, count as usize);
         Ok(Answer::Number(number))
     }
 
     /// Cells from one on get a style; how many is the answer.
     pub fn style(&mut self, place: u32, count: u32, style: u32) -> Result<Answer, Refusal>
+        requires sound { InOrder self.old }
         requires good { good_fields (styles place count style) ≡ true }
         ensures { Acts self.old self.new (styles place count style) (outcome result) }
     {
@@ -53,13 +53,10 @@ impl<'a> Desk<'a> {
         let Some(at) = run_in(total, place, count) else {
             return Err(Refusal::NoSuchCells { field: 0 });
         };
-        cells::sweep_run(
-            self.cells,
-            self.pieces,
-            at,
-            count as usize,
-            Action::Style { style },
-        );
+        let cells = &mut *self.cells;
+        let pieces = &mut *self.pieces;
+        recording::style(cells, pieces, self.undo, place, count, style);
+        self.write_style(at, count as usize, style);
         Ok(Answer::Number(count))
     }
 
@@ -73,19 +70,18 @@ impl<'a> Desk<'a> {
 
     /// A change is accepted or rejected; how many cells had its mark before is the answer.
     pub fn decide(&mut self, change: u32, verdict: Verdict) -> Result<Answer, Refusal>
-        ensures { Acts self.old self.new (verdict_call verdict change) (outcome result) }
+        requires { InOrder self.old }
+        ensures { Acts self.old self.new (decided verdict change) (outcome result) }
     {
         let found = self.find_change(change)?;
         if found.became != 0 {
             return Err(Refusal::NotOpen);
         }
         let marked = self.touched(change);
-        let action = match verdict {
-            Verdict::Accepted => Action::Accept { change },
-            Verdict::Rejected => Action::Reject { change },
-        };
-        cells::sweep_all(self.cells, self.pieces, action);
-        self.judge(change, verdict);
+        let cells = &mut *self.cells;
+        let pieces = &mut *self.pieces;
+        recording::decision(cells, pieces, self.undo, change, verdict, marked);
+        self.write_verdict(change, verdict);
         Ok(Answer::Number(marked))
     }
 }

@@ -1,11 +1,11 @@
 // The memory that a paper is kept in, as one value.
 ghost use Rattle.std.specs.Prelude.{◌≡◌, ◌+◌, ◌-◌, ◌*◌, ◌<◌, ◌≤◌, true, false, [], ◌∷◌, ◌++◌, length, drop, MatchResult, slice_index};
 ghost use Rattle.std.proofs.Props.{props};
-ghost use Rattle.session.specs.Memory.{Held, slots_of};
+ghost use Rattle.session.specs.Memory.{Held, slots_of, tables};
 
 use crate::Refusal;
 use changes::Row;
-use model::{Change, Verdict};
+use model::Change;
 use pieces::Text;
 
 /// How many words stand before the row of changes. Words 0 to 2 are the limits of cells, changes and undos, and word 3 is how many changes there are: by
@@ -13,11 +13,13 @@ use pieces::Text;
 pub const HEAD: usize = 16;
 
 /// The lent words: the cells are the slots of the text. The pieces begin with the limits and how many changes there are; the row of changes and the
-/// tables of the text follow. It has no `Debug`, which would print all of the memory.
+/// tables of the text follow. The third slice is the log of what can be undone. It has no `Debug`, which would print all of the memory.
+/// What holds of the log is asked for by each call and is no ghost field: between a call's entry in the log and its write it does not hold.
 #[derive(Drop)]
 pub struct Desk<'a> {
     pub cells: &'a mut [u32],
     pub pieces: &'a mut [u32],
+    pub undo: &'a mut [u32],
     ghost held: { Held cells.now pieces.now } by { Prim.hlevel props },
 }
 
@@ -39,14 +41,40 @@ pub fn tables_from(pieces: &[u32]) -> usize
     HEAD + 2 * pieces[1] as usize
 }
 
+// The text, to be read.
+pub fn text_in<'a>(cells: &'a [u32], pieces: &'a [u32]) -> Text<'a>
+    requires { Held cells.now pieces.now }
+    ensures cells { result.cells.now ≡ cells.now }
+    ensures tables { result.tables.now ≡ tables pieces.now }
+    ensures slots { result.slots ≡ slots_of pieces.now }
+{
+    Text {
+        cells,
+        tables: &pieces[tables_from(pieces)..],
+        slots: slots_in(pieces),
+    }
+}
+
+// The row of changes, of all the pieces or of those before the tables.
+pub fn row_in(pieces: &[u32]) -> Row<'_>
+    requires few { 16 + 2 * slice_index pieces.now 3 ≤ length pieces.now }
+    ensures words { result.words.now ≡ drop 16 pieces.now }
+    ensures len { result.len ≡ slice_index pieces.now 3 }
+{
+    Row {
+        words: &pieces[HEAD..],
+        len: pieces[3] as usize,
+    }
+}
+
 impl<'a> Desk<'a> {
     ghost use Rattle.changes.specs.Row.{change_at};
+    ghost use Rattle.history.specs.Entry.{but_last};
     ghost use Rattle.model.specs.Calls.{with_became};
     ghost use Rattle.model.specs.Paper.{touched as touches};
-    ghost use Rattle.model.specs.Values.{change_of, verdict_number};
+    ghost use Rattle.model.specs.Values.{change_of};
     ghost use Rattle.session.specs.Acts.{allows, with_changes};
     ghost use Rattle.session.specs.Desks.{Writes, paper_in};
-    ghost use Rattle.session.specs.Memory.{tables};
     ghost use Rattle.session.specs.declared.refusal.Refusal.TheVariants.{NoSuchChange, PastLimits};
 
     /// The text, to be read.
@@ -55,11 +83,7 @@ impl<'a> Desk<'a> {
         ensures tables { result.tables.now ≡ tables self.now.pieces.now }
         ensures slots { result.slots ≡ slots_of self.now.pieces.now }
     {
-        Text {
-            cells: self.cells,
-            tables: &self.pieces[tables_from(self.pieces)..],
-            slots: slots_in(self.pieces),
-        }
+        text_in(self.cells, self.pieces)
     }
 
     /// How many cells the paper has.
@@ -77,14 +101,11 @@ impl<'a> Desk<'a> {
     }
 
     /// The row of changes.
-    fn row(&self) -> Row<'_>
+    pub fn row(&self) -> Row<'_>
         ensures words { result.words.now ≡ drop 16 self.now.pieces.now }
         ensures len { result.len ≡ slice_index self.now.pieces.now 3 }
     {
-        Row {
-            words: &self.pieces[HEAD..],
-            len: self.pieces[3] as usize,
-        }
+        row_in(self.pieces)
     }
 
     /// Change number `change`.
@@ -116,13 +137,22 @@ impl<'a> Desk<'a> {
         pieces[3] = number + 1;
     }
 
-    /// What became of a change is noted.
-    pub fn judge(&mut self, change: u32, verdict: Verdict)
+    /// The latest change goes.
+    pub fn drop_change(&mut self)
+        requires { 0 < slice_index self.old.pieces.now 3 }
+        ensures { Writes self.old self.new (with_changes (paper_in self.old) (but_last (paper_in self.old).changes)) }
+    {
+        let pieces = &mut *self.pieces;
+        let left = pieces[3] - 1;
+        pieces[3] = left;
+    }
+
+    /// What became of a change is noted: a number, as a `Change` has it, since undoing makes one open again.
+    pub fn judge(&mut self, change: u32, became: u32)
         requires { change < slice_index self.old.pieces.now 3 }
-        ensures { Writes self.old self.new (with_changes (paper_in self.old) (with_became (paper_in self.old).changes change (verdict_number verdict))) }
+        ensures { Writes self.old self.new (with_changes (paper_in self.old) (with_became (paper_in self.old).changes change became)) }
     {
         let number = self.pieces[3] as usize;
-        let became = u32::from(verdict);
         changes::decide(&mut self.pieces[HEAD..], number, change as usize, became);
     }
 }

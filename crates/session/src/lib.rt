@@ -7,14 +7,17 @@ ghost use Rattle.codec.specs.Reading.{reading};
 ghost use Rattle.session.specs.Contract.{Called, Opening, good_limits};
 ghost use Rattle.session.specs.Desks.{Tried};
 ghost use Rattle.session.specs.Keeping.{AnyChain, FromOpening, MainPromise};
-ghost use Rattle.session.specs.Memory.{Held, Sound, cells_words, pieces_words, undo_words};
+ghost use Rattle.session.specs.Memory.{Sound, cells_words, pieces_words, undo_words};
 
 mod calls;
 mod cells;
 mod deciding;
 mod desk;
 mod range;
+mod recording;
 mod refusal;
+mod undoing;
+mod writes;
 
 use codec::Answer;
 use desk::{Desk, HEAD};
@@ -72,7 +75,7 @@ pub fn words_for(limits: Limits) -> Sizes
     Sizes {
         cells: 4096 * (limits.cells as usize / 576 + 4),
         pieces: 10256 + 2 * limits.changes as usize,
-        undo: 0,
+        undo: 16 + 16 * limits.undos as usize,
     }
 }
 
@@ -101,6 +104,7 @@ pub fn open(
     let tables = HEAD + 2 * limits.changes as usize;
     let slots = pieces::slots_for(limits.cells as usize);
     pieces::clear(cells, &mut pieces[tables..], slots);
+    history::log::clear(undo, limits.undos);
     Ok(())
 }
 
@@ -130,7 +134,7 @@ pub fn call(
     ensures within { result ≤ length answer.old }
     ensures rest { drop result answer.new ≡ drop result answer.old }
 {
-    match try_call(cells, pieces, bytes, answer) {
+    match try_call(cells, pieces, undo, bytes, answer) {
         Ok(long) => long,
         Err(refusal) => codec::write(Answer::from(refusal), answer),
     }
@@ -140,17 +144,22 @@ pub fn call(
 fn try_call(
     cells: &mut [u32],
     pieces: &mut [u32],
+    undo: &mut [u32],
     bytes: &[u8],
     answer: &mut [u8],
 ) -> Result<usize, Refusal>
-    requires held { Held cells.old pieces.old }
+    requires sound { Sound cells.old pieces.old undo.old }
     requires room { 262405 ≤ length answer.old }
-    ensures { Tried cells.old pieces.old (reading bytes.now) cells.new pieces.new answer.old answer.new result }
+    ensures { Tried cells.old pieces.old undo.old (reading bytes.now) cells.new pieces.new undo.new answer.old answer.new result }
 {
     // Not `map_err` and `?`: tried, and the proof that the call is the one that was read did not close.
     match codec::read(bytes) {
         Ok((call, letters)) => {
-            let mut desk = Desk { cells, pieces };
+            let mut desk = Desk {
+                cells,
+                pieces,
+                undo,
+            };
             desk.serve(call, letters, answer)
         }
         Err(at) => Err(Refusal::NotACall { at }),

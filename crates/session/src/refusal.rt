@@ -23,14 +23,18 @@ pub enum Refusal {
     NoSuchChange,
     /// The change is accepted or rejected already.
     NotOpen,
+    NothingToUndo,
+    NothingToRedo,
     NoSuchRows,
+    /// The file has no such numbers.
+    NoSuchNumbers,
     /// The paper would have more cells or changes than its limits.
     PastLimits,
 }
 
 impl Refusal {
     /// The number by which a caller of the desk knows the reason. The checks run in the order of these numbers.
-    /// (A method: two of the reasons have one number, so that it alone does not stand for the refusal.)
+    /// (A method: some reasons have one number, so that it alone does not stand for the refusal.)
     pub fn number(self) -> u32
         ensures is { result ≡ refusal_number self }
         ensures small { result ≤ 9 }
@@ -42,7 +46,8 @@ impl Refusal {
             Refusal::NoSuchCells { .. } => 4,
             Refusal::NoSuchChange => 5,
             Refusal::NotOpen => 6,
-            Refusal::NoSuchRows => 8,
+            Refusal::NothingToUndo | Refusal::NothingToRedo => 7,
+            Refusal::NoSuchRows | Refusal::NoSuchNumbers => 8,
             Refusal::PastLimits => 9,
         }
     }
@@ -60,6 +65,9 @@ impl Refusal {
             | Refusal::TooLittleMemory
             | Refusal::NoSuchChange
             | Refusal::NotOpen
+            | Refusal::NothingToUndo
+            | Refusal::NothingToRedo
+            | Refusal::NoSuchNumbers
             | Refusal::PastLimits => 0,
         }
     }

@@ -1,43 +1,164 @@
--- A keeper that does what the contracts of open and call say: after a call that writes and is done it has the canonical memory of the new paper,
--- and else the memory that it had. It meets the contracts from any sound memory, also from one that is not canonical. Assumes nothing.
-use Rattle.std.proofs.Common.{◌≡◌, ℕ, zero, suc, ◌+◌, Bool, true, false, ◌&&◌, eqb, leb, List, [], ◌++◌, length, get_or, take, drop, sym, refl, ap, ◌∙◌, subst, arith}
+-- A keeper that does what the contracts of open and call say: after a call that is done it has the canonical memory of what is left, and after one that
+-- is turned away the memory that it had. It meets the contracts from any sound memory, also from one that is not canonical. Assumes nothing.
+use Rattle.std.proofs.Common.{◌≡◌, ℕ, zero, suc, ◌+◌, ◌≤◌, true, eqb, List, [], ◌∷◌, ◌++◌, length, get_or, take, drop, sym, refl, ap, ◌∙◌, subst, arith}
 use Rattle.std.proofs.lemmas.List.{append-nil, drop_all, drop_at, take_at, get_or-drop, get_or_append_left}
-use Rattle.std.proofs.lemmas.Bool.{and_parts, leb-true, eqb-true, ne_eqb}
+use Rattle.std.proofs.lemmas.Bool.{ne_eqb}
 use Rattle.changes.proofs.Steps.{length_changes}
 use Rattle.model.specs.Paper.{pick, Paper}
-use Rattle.model.specs.Calls.{Call, put, strikes, accepts, rejects, styles, undo, redo, show, find, count, change, save, Answer, Desk, Limits, call_number, good_call, turned_by, rewritten, writes, moved, fits, turned, after, told, answer}
+use Rattle.model.specs.Calls.{Call, put, strikes, accepts, rejects, styles, undo, redo, show, find, count, change, save, Answer, Desk, Limits, call_number, rewritten, writes, turned, after, answer, new_desk}
 use Rattle.model.specs.Promise.{GoodLimits, readable, Memory, Keeper}
 use Rattle.codec.specs.Bytes.{answer_bytes}
 use Rattle.codec.specs.Reading.{Reading, call_is}
 use Rattle.codec.proofs.ReadsBack.{reads_back}
-use Rattle.session.specs.Memory.{cells_words, pieces_words, undo_words, limits_of, paper_of, tables, Sound, Stands, opened_undo}
-use Rattle.session.specs.Contract.{Does, Fit}
+use Rattle.history.specs.Entry.{Entry, call_of, entry_of, undo_of, redo_of}
+use Rattle.history.specs.Steps.{past_of, future_of, desk_of, kept, StandsFor}
+use Rattle.history.specs.Words.{entry_words, back_words, ahead_words}
+use Rattle.history.proofs.Stepping.{opens, write_steps, undo_steps, redo_steps, undo_turned, redo_turned, turned_keeps, looking_keeps}
+use Rattle.session.specs.Memory.{cells_words, pieces_words, undo_words, limits_of, paper_of, tables, Sound, Stands}
+use Rattle.session.specs.Contract.{Beyond, Does, Done, Fit}
 use Rattle.session.specs.Keeping.{Holds, Opens, Calls, SomeKeeper}
-use Rattle.witness.proofs.Small.{OfPaper, rewritten_small, row_small, text_small}
-use Rattle.witness.proofs.Canonical.{Within, cells_for, pieces_for, undo_for, memory_for, holds_for, paper_is, sound_for, fit_for, empty, opened_cells_are, opened_pieces_are}
+use Rattle.witness.proofs.Small.{Word, Small, small_append, small_front, small_rest, OfPaper, OfCall, rewritten_small, readable_small, row_small, text_small}
+use Rattle.witness.proofs.Entries.{entry_of_small, kept_with, undo_small, call_small, back_in, ahead_in, log_read, log_small, no_entries}
+use Rattle.witness.proofs.Canonical.{State, OfState, staged, cells_for, pieces_for, undo_for, memory_for, holds_for, stands_at, fit_for, empty, opened_cells_are, opened_pieces_are}
+
+-- What is left after a call that is done.
+abbrev written : Limits → State → Call → State
+written l s c = record { paper = rewritten s.paper c; back = kept l.undos (entry_of s.paper c ∷ s.back); ahead = [] }
+
+abbrev undone : State → List Entry → State
+undone s [] = s
+undone s (e ∷ back) = record { paper = undo_of e s.paper; back = back; ahead = e ∷ s.ahead }
+
+abbrev redone : State → List Entry → State
+redone s [] = s
+redone s (e ∷ ahead) = record { paper = redo_of e s.paper; back = e ∷ s.back; ahead = ahead }
+
+unfoldable step : Limits → State → Call → State
+step l s (put a i t ls) = written l s (put a i t ls)
+step l s (strikes a i n) = written l s (strikes a i n)
+step l s (accepts c) = written l s (accepts c)
+step l s (rejects c) = written l s (rejects c)
+step l s (styles i n t) = written l s (styles i n t)
+step l s undo = undone s s.back
+step l s redo = redone s s.ahead
+step l s (show k w r n) = s
+step l s (find k i ls) = s
+step l s (count k) = s
+step l s (change c) = s
+step l s (save i n) = s
+
+-- a state stands for a desk
+abbrev For : Limits → State → Desk → Type 0
+For l s d = StandsFor l s.paper s.back s.ahead d
+
+abbrev desk_at : State → Desk
+desk_at s = desk_of s.paper s.back s.ahead
+
+undone_for : (l : Limits) (p : Paper) (back ahead : List Entry) (d : Desk) → l.calls_can 5 ≡ true → StandsFor l p back ahead d → turned l d undo ≡ 0 →
+    For l (undone (record { paper = p; back = back; ahead = ahead }) back) (after l d undo)
+undone_for l p [] ahead d can st t = let seven : turned l d undo ≡ 7 = (undo_turned l p [] ahead d st can).0 in absurd (omega (arith, t, seven))
+undone_for l p (e ∷ back) ahead d can st t = undo_steps l p e back ahead d st can
+
+redone_for : (l : Limits) (p : Paper) (back ahead : List Entry) (d : Desk) → l.calls_can 6 ≡ true → StandsFor l p back ahead d → turned l d redo ≡ 0 →
+    For l (redone (record { paper = p; back = back; ahead = ahead }) ahead) (after l d redo)
+redone_for l p back [] d can st t = let seven : turned l d redo ≡ 7 = (redo_turned l p back [] d st can).0 in absurd (omega (arith, t, seven))
+redone_for l p back (e ∷ ahead) d can st t = redo_steps l p e back ahead d st can
+
+module _ (l : Limits) (s : State) (d : Desk) (can : (l.calls_can 5 ≡ true) × (l.calls_can 6 ≡ true)) (st : For l s d) where
+  step_for : (c : Call) → turned l d c ≡ 0 → For l (step l s c) (after l d c)
+  unfolding step writes call_number
+  step_for (put a i t ls) h = write_steps l s.paper s.back s.ahead d (put a i t ls) st refl h
+  step_for (strikes a i n) h = write_steps l s.paper s.back s.ahead d (strikes a i n) st refl h
+  step_for (accepts c) h = write_steps l s.paper s.back s.ahead d (accepts c) st refl h
+  step_for (rejects c) h = write_steps l s.paper s.back s.ahead d (rejects c) st refl h
+  step_for (styles i n t) h = write_steps l s.paper s.back s.ahead d (styles i n t) st refl h
+  step_for undo h = undone_for l s.paper s.back s.ahead d can.0 st h
+  step_for redo h = redone_for l s.paper s.back s.ahead d can.1 st h
+  step_for (show k w r n) h = looking_keeps l s.paper s.back s.ahead d (show k w r n) st (omega arith)
+  step_for (find k i ls) h = looking_keeps l s.paper s.back s.ahead d (find k i ls) st (omega arith)
+  step_for (count k) h = looking_keeps l s.paper s.back s.ahead d (count k) st (omega arith)
+  step_for (change c) h = looking_keeps l s.paper s.back s.ahead d (change c) st (omega arith)
+  step_for (save i n) h = looking_keeps l s.paper s.back s.ahead d (save i n) st (omega arith)
+
+-- its words fit four bytes
+undone_small : (p : Paper) (back ahead : List Entry) → OfPaper p → Small (back_words back) → Small (ahead_words ahead) →
+    OfState (undone (record { paper = p; back = back; ahead = ahead }) back)
+unfolding back_words ahead_words
+undone_small p [] ahead h b a = record { paper = h; back = b; ahead = a }
+undone_small p (e ∷ back) ahead h b a =
+    let one : Small (entry_words e) = small_rest (back_words back) (entry_words e) b in
+    record { paper = undo_small e p one h; back = small_front (back_words back) (entry_words e) b; ahead = small_append (entry_words e) (ahead_words ahead) one a }
+
+redone_small : (p : Paper) (back ahead : List Entry) → Word (suc (length p.changes)) → OfPaper p → Small (back_words back) → Small (ahead_words ahead) →
+    OfState (redone (record { paper = p; back = back; ahead = ahead }) ahead)
+unfolding back_words ahead_words
+redone_small p back [] mark h b a = record { paper = h; back = b; ahead = a }
+redone_small p back (e ∷ ahead) mark h b a =
+    let one : Small (entry_words e) = small_front (entry_words e) (ahead_words ahead) a in
+    record {
+      paper = rewritten_small p (call_of e) (call_small e one) mark h;
+      back = small_append (back_words back) (entry_words e) b one;
+      ahead = small_rest (entry_words e) (ahead_words ahead) a;
+    }
+
+module _ (l : Limits) (s : State) (few : length s.paper.cells ≤ 1000000) (low : l.undos ≤ 1000000) (mark : Word (suc (length s.paper.changes))) (h : OfState s) where
+  written_small : (c : Call) → OfCall c → OfState (written l s c)
+  unfolding ahead_words
+  written_small c r =
+      record {
+        paper = rewritten_small s.paper c r mark h.paper;
+        back = kept_with l.undos (entry_of s.paper c) s.back (λ room. entry_of_small s.paper c r h.paper few (omega arith)) h.back;
+        ahead = λ i. omega arith;
+      }
+
+  step_small : (c : Call) → OfCall c → OfState (step l s c)
+  unfolding step
+  step_small (put a i t ls) r = written_small (put a i t ls) r
+  step_small (strikes a i n) r = written_small (strikes a i n) r
+  step_small (accepts c) r = written_small (accepts c) r
+  step_small (rejects c) r = written_small (rejects c) r
+  step_small (styles i n t) r = written_small (styles i n t) r
+  step_small undo r = undone_small s.paper s.back s.ahead h.paper h.back h.ahead
+  step_small redo r = redone_small s.paper s.back s.ahead mark h.paper h.back h.ahead
+  step_small (show k w i n) r = h
+  step_small (find k i ls) r = h
+  step_small (count k) r = h
+  step_small (change c) r = h
+  step_small (save i n) r = h
 
 -- the slices in one list of words
 abbrev pieces_in : Memory → List ℕ
 pieces_in m = take (pieces_words (get_or m.words 1 0)) m.words
 
+abbrev past_pieces : Memory → List ℕ
+past_pieces m = drop (pieces_words (get_or m.words 1 0)) m.words
+
 abbrev cells_in : Memory → List ℕ
-cells_in m = take (cells_words (get_or m.words 0 0)) (drop (pieces_words (get_or m.words 1 0)) m.words)
+cells_in m = take (cells_words (get_or m.words 0 0)) (past_pieces m)
 
--- a desk with a paper, at which nothing can be undone or redone
-abbrev bare : Paper → Desk
-bare p = record { now = p; past = []; future = [] }
+abbrev undo_in : Memory → List ℕ
+undo_in m = drop (cells_words (get_or m.words 0 0)) (past_pieces m)
 
-abbrev next_in : List ℕ → List ℕ → Memory → Call → Memory
-next_in cs ps m c =
-    pick (writes c && eqb (turned (limits_of ps) (bare (paper_of cs ps)) c) 0) (memory_for (limits_of ps) (rewritten (paper_of cs ps) c)) m
+-- what they keep
+abbrev state_in : List ℕ → List ℕ → List ℕ → State
+state_in cs ps us = record { paper = paper_of cs ps; back = back_in us; ahead = ahead_in us }
 
-abbrev says_in : List ℕ → List ℕ → Call → Answer
-says_in cs ps c = answer (limits_of ps) (bare (paper_of cs ps)) c
+abbrev next_in : List ℕ → List ℕ → List ℕ → Memory → Call → Memory
+next_in cs ps us m c =
+    pick (eqb (turned (limits_of ps) (desk_at (state_in cs ps us)) c) 0) (memory_for (limits_of ps) (step (limits_of ps) (state_in cs ps us) c)) m
+
+abbrev says_in : List ℕ → List ℕ → List ℕ → Call → Answer
+says_in cs ps us c = answer (limits_of ps) (desk_at (state_in cs ps us)) c
 
 abbrev keeper : Keeper
-keeper = record { opens = λ l. memory_for l empty; next = λ m c. next_in (cells_in m) (pieces_in m) m c; says = λ m c. says_in (cells_in m) (pieces_in m) c }
+keeper =
+    record {
+      opens = λ l. memory_for l empty;
+      next = λ m c. next_in (cells_in m) (pieces_in m) (undo_in m) m c;
+      says = λ m c. says_in (cells_in m) (pieces_in m) (undo_in m) c;
+    }
 
-slices : (m : Memory) (cs ps us : List ℕ) → Holds m cs ps us → (cells_in m ≡ cs) × (pieces_in m ≡ ps)
+slices : (m : Memory) (cs ps us : List ℕ) → Holds m cs ps us → (cells_in m ≡ cs) × (pieces_in m ≡ ps) × (undo_in m ≡ us)
 slices m cs ps us holds =
     let w : m.words ≡ ps ++ (cs ++ us) = holds.words in
     let long : length ps ≡ pieces_words (get_or ps 1 0) = holds.pieces in
@@ -46,180 +167,134 @@ slices m cs ps us holds =
     let first : take (pieces_words (get_or ps 1 0)) (ps ++ (cs ++ us)) ≡ ps = take_at ps (cs ++ us) (pieces_words (get_or ps 1 0)) long in
     let rest : drop (pieces_words (get_or ps 1 0)) (ps ++ (cs ++ us)) ≡ cs ++ us = drop_at ps (cs ++ us) (pieces_words (get_or ps 1 0)) long in
     let second : take (cells_words (get_or ps 0 0)) (cs ++ us) ≡ cs = take_at cs us (cells_words (get_or ps 0 0)) holds.cells in
-    (cc, cc)
-
--- No call that can be done tells of what could be undone or redone.
-bare_same : (ps : List ℕ) (d : Desk) (c : Call) →
-    (turned (limits_of ps) d c ≡ turned (limits_of ps) (bare d.now) c) × (answer (limits_of ps) d c ≡ answer (limits_of ps) (bare d.now) c)
-unfolding call_number turned_by told
-bare_same ps d (put a i s ls) = (refl, refl)
-bare_same ps d (strikes a i n) = (refl, refl)
-bare_same ps d (accepts c) = (refl, refl)
-bare_same ps d (rejects c) = (refl, refl)
-bare_same ps d (styles i n s) = (refl, refl)
-bare_same ps d undo = (refl, refl)
-bare_same ps d redo = (refl, refl)
-bare_same ps d (show k w r n) = (refl, refl)
-bare_same ps d (find k i ls) = (refl, refl)
-bare_same ps d (count k) = (refl, refl)
-bare_same ps d (change c) = (refl, refl)
-bare_same ps d (save i n) = (refl, refl)
-
-pick_same : {A : Type 0} (b : Bool) (x : A) → pick b x x ≡ x
-pick_same true x = refl
-pick_same false x = refl
-
--- a call that is not turned away leaves a paper within the limits
-not_turned : (good : Bool) (why : ℕ) (room : Bool) → pick good (pick (eqb why 0) (pick room 0 9) why) 2 ≡ 0 → room ≡ true
-not_turned false why room e = absurd (omega arith)
-not_turned true zero true e = refl
-not_turned true zero false e = absurd (omega arith)
-not_turned true (suc why) room e = let f = ne_eqb (suc why) 0 (λ z. omega arith) in let z : suc why ≡ 0 = rw f at e in absurd (omega arith)
+    let third : drop (cells_words (get_or ps 0 0)) (cs ++ us) ≡ us = drop_at cs us (cells_words (get_or ps 0 0)) holds.cells in
+    (cc, cc, cc)
 
 -- nothing is left past the end
 past_end : (k : ℕ) (xs ys : List ℕ) → length xs ≡ k → length ys ≡ k → drop k xs ≡ drop k ys
 past_end k xs ys a b = drop_all k xs (omega arith) ∙ sym (drop_all k ys (omega arith))
 
+beyond : (l : Limits) (cs ps us cs' ps' us' : List ℕ) → length cs ≡ cells_words l.cells → length ps ≡ pieces_words l.changes → length us ≡ undo_words l.undos →
+    length cs' ≡ cells_words l.cells → length ps' ≡ pieces_words l.changes → length us' ≡ undo_words l.undos → Beyond cs ps us cs' ps' us' l
+beyond l cs ps us cs' ps' us' a b c a' b' c' =
+    record {
+      cells = past_end (cells_words l.cells) cs' cs a' a;
+      pieces = past_end (pieces_words l.changes) ps' ps b' b;
+      undo = past_end (undo_words l.undos) us' us c' c;
+      cells_length = a' ∙ sym a;
+      pieces_length = b' ∙ sym b;
+      undo_length = c' ∙ sym c;
+    }
+
+-- the only desk that a state stands for
+one_desk : (l : Limits) (s : State) (d : Desk) → For l s d → desk_at s ≡ d
+one_desk l s d st = λ i. record { now = sym st.now i; past = sym st.past i; future = sym st.future i }
+
 module _ (m : Memory) (cs ps us : List ℕ) (holds : Holds m cs ps us) (sound : Sound cs ps us) (fit : Fit cs ps us) where
-  abbrev paper : Paper
-  paper = paper_of cs ps
+  abbrev s : State
+  s = state_in cs ps us
 
-  says_same : (d : Desk) (c : Call) → d.now ≡ paper → answer_bytes (says_in cs ps c) ≡ answer_bytes (answer (limits_of ps) d c)
-  says_same d c e = ap answer_bytes (sym ((bare_same ps d c).1 ∙ ap (λ (p : Paper). answer (limits_of ps) (bare p) c) e))
+  abbrev l : Limits
+  l = limits_of ps
 
-  turned_same : (d : Desk) (c : Call) → d.now ≡ paper → turned (limits_of ps) d c ≡ turned (limits_of ps) (bare paper) c
-  turned_same d c e = (bare_same ps d c).0 ∙ ap (λ (p : Paper). turned (limits_of ps) (bare p) c) e
+  abbrev here : Desk
+  here = desk_at s
 
-  -- a call that leaves every desk with this paper as it is
-  still : (c : Call) → readable c ≡ true → ((d : Desk) → d.now ≡ paper → after (limits_of ps) d c ≡ d) → Calls cs ps us c m (says_in cs ps c)
-  still c h stays =
-      let rs : List ℕ = answer_bytes (says_in cs ps c) in
-      let does : Does (call_is c) cs ps us cs ps us rs =
-      λ d st. record { stands = subst (Stands cs ps us) (sym (stays d st.paper)) st; limits = refl; says = says_same d c st.paper; kept = λ _. (refl, refl, refl) } in
+  -- the entries are those that stand in the words, whoever names them
+  for_read : (d : Desk) → Stands cs ps us d → For l s d
+  for_read d st =
+      let r = log_read us (get_or ps 2 0) st.sound.back st.sound.ahead st.sound.log in
+      rw (r.0, r.1) st.desk
+
+  held : Stands cs ps us here
+  held =
+      let r = log_read us (get_or ps 2 0) sound.back sound.ahead sound.log in
       record {
-        cells = cs;
-        pieces = ps;
-        undo = us;
-        holds = holds;
-        called = record {
-          does = subst (λ (r : Reading). Does r cs ps us cs ps us rs) (sym (reads_back c h)) does;
-          sound = sound;
-          limits = refl;
-          beyond = record { cells = refl; pieces = refl; undo = refl; cells_length = refl; pieces_length = refl; undo_length = refl };
-          fit = fit;
+        sound = sound;
+        desk = record {
+          now = refl;
+          past = ap (λ (es : List Entry). past_of es (paper_of cs ps)) r.0;
+          future = ap (λ (es : List Entry). future_of es (paper_of cs ps)) r.1;
+          sane = sound.sane;
         };
       }
 
-  small : OfPaper paper
-  small = record { cells = text_small cs (tables ps) fit.0 0 _; changes = row_small (drop 16 ps) (λ i. rw get_or-drop (fit.1 (16 + i))) 0 _ }
+  -- from the desk in memory to every desk that memory stands for
+  calls_from : (c : Call) (m' : Memory) (cs' ps' us' : List ℕ) → readable c ≡ true → Holds m' cs' ps' us' → Fit cs' ps' us' →
+      Done cs ps us here c cs' ps' us' (answer_bytes (says_in cs ps us c)) → Calls cs ps us c m' (says_in cs ps us c)
+  calls_from c m' cs' ps' us' h holds' fit' done =
+      let rs : List ℕ = answer_bytes (says_in cs ps us c) in
+      let does : Does (call_is c) cs ps us cs' ps' us' rs = λ d st. subst (λ (x : Desk). Done cs ps us x c cs' ps' us' rs) (one_desk l s d (for_read d st)) done in
+      let same : limits_of ps' ≡ l = done.limits in
+      let a : length cs' ≡ cells_words l.cells = holds'.cells ∙ ap (λ (k : Limits). cells_words k.cells) same in
+      let b : length ps' ≡ pieces_words l.changes = holds'.pieces ∙ ap (λ (k : Limits). pieces_words k.changes) same in
+      let e : length us' ≡ undo_words l.undos = holds'.undo ∙ ap (λ (k : Limits). undo_words k.undos) same in
+      record {
+        cells = cs';
+        pieces = ps';
+        undo = us';
+        holds = holds';
+        called = record {
+          does = subst (λ (r : Reading). Does r cs ps us cs' ps' us' rs) (sym (reads_back c h)) does;
+          sound = done.stands.sound;
+          limits = same;
+          beyond = beyond l cs ps us cs' ps' us' holds.cells holds.pieces holds.undo a b e;
+          fit = fit';
+        };
+      }
 
-  -- a call that writes and is done
-  module _ (c : Call) (carried : readable c ≡ true) (written : writes c ≡ true) (done : turned (limits_of ps) (bare paper) c ≡ 0) where
-    abbrev new : Paper
-    new = rewritten paper c
+  small : OfState s
+  small =
+      let r = log_read us (get_or ps 2 0) sound.back sound.ahead sound.log in
+      let w = log_small us (get_or ps 2 0) sound.back sound.ahead sound.log fit.2 in
+      record {
+        paper = record { cells = text_small cs (tables ps) fit.0 0 _; changes = row_small (drop 16 ps) (λ i. rw get_or-drop (fit.1 (16 + i))) 0 _ };
+        back = subst (λ (es : List Entry). Small (back_words es)) (sym r.0) w.0;
+        ahead = subst (λ (es : List Entry). Small (ahead_words es)) (sym r.1) w.1;
+      }
 
-    abbrev cs' : List ℕ
-    cs' = cells_for (limits_of ps) new
+  good : GoodLimits l
+  good = (sound.held.few_cells, sound.held.few_changes, sound.held.few_undos)
 
-    abbrev ps' : List ℕ
-    ps' = pieces_for (limits_of ps) new
-
-    abbrev us' : List ℕ
-    us' = undo_for (limits_of ps)
-
-    within : Within (limits_of ps) new
-    within =
-        let shown : fits (limits_of ps) new ≡ true = not_turned (good_call (limits_of ps) c) (turned_by (bare paper) c) (fits (limits_of ps) new) done in
-        let room = and_parts (leb (length new.cells) (get_or ps 0 0)) (leb (length new.changes) (get_or ps 1 0)) shown in
-        record {
-          good = (omega arith, omega arith, omega arith);
-          cells = leb-true (length new.cells) (get_or ps 0 0) room.0;
-          changes = leb-true (length new.changes) (get_or ps 1 0) room.1;
-        }
-
-    new_small : OfPaper new
-    new_small = let long = length_changes (drop 16 ps) 0 (get_or ps 3 0) in rewritten_small paper c carried (omega arith) small
-
-    write_done : Calls cs ps us c (memory_for (limits_of ps) new) (says_in cs ps c)
-    write_done =
-        let rs : List ℕ = answer_bytes (says_in cs ps c) in
-        let right : Sound cs' ps' us' = sound_for (limits_of ps) new within in
-        let is : paper_of cs' ps' ≡ new = paper_is (limits_of ps) new within in
-        let long : Holds (memory_for (limits_of ps) new) cs' ps' us' = holds_for (limits_of ps) new within in
-        let does : Does (call_is c) cs ps us cs' ps' us' rs =
-        λ d st.
-        let same : turned (limits_of ps) d c ≡ 0 = turned_same d c st.paper ∙ done in
-        let now : (after (limits_of ps) d c).now ≡ rewritten d.now c = rw (same, written) refl in
-        record {
-          stands = record { sound = right; paper = now ∙ ap (λ (p : Paper). rewritten p c) st.paper ∙ sym is };
-          limits = refl;
-          says = says_same d c st.paper;
-          kept = λ less. absurd (omega arith);
-        } in
-        record {
-          cells = cs';
-          pieces = ps';
-          undo = us';
-          holds = long;
-          called = record {
-            does = subst (λ (r : Reading). Does r cs ps us cs' ps' us' rs) (sym (reads_back c carried)) does;
-            sound = right;
-            limits = refl;
-            beyond = record {
-              cells = past_end (cells_words (get_or ps 0 0)) cs' cs long.cells holds.cells;
-              pieces = past_end (pieces_words (get_or ps 1 0)) ps' ps long.pieces holds.pieces;
-              undo = past_end (undo_words (get_or ps 2 0)) us' us long.undo holds.undo;
-              cells_length = long.cells ∙ sym holds.cells;
-              pieces_length = long.pieces ∙ sym holds.pieces;
-              undo_length = long.undo ∙ sym holds.undo;
-            };
-            fit = fit_for (limits_of ps) new within new_small;
-          };
-        }
-
-  write_calls : (c : Call) → readable c ≡ true → writes c ≡ true → (t : Bool) → eqb (turned (limits_of ps) (bare paper) c) 0 ≡ t →
-      Calls cs ps us c (pick t (memory_for (limits_of ps) (rewritten paper c)) m) (says_in cs ps c)
-  write_calls c h w true e = write_done c h w (eqb-true _ _ e)
-  write_calls c h w false e =
-      still c h λ d k. let f : eqb (turned (limits_of ps) d c) 0 ≡ false = ap (λ (n : ℕ). eqb n 0) (turned_same d c k) ∙ e in rw f refl
-
-  calls_in : (c : Call) → readable c ≡ true → Calls cs ps us c (next_in cs ps m c) (says_in cs ps c)
-  unfolding call_number writes moved
-  calls_in (put a i s ls) h = write_calls (put a i s ls) h refl _ refl
-  calls_in (strikes a i n) h = write_calls (strikes a i n) h refl _ refl
-  calls_in (accepts c) h = write_calls (accepts c) h refl _ refl
-  calls_in (rejects c) h = write_calls (rejects c) h refl _ refl
-  calls_in (styles i n s) h = write_calls (styles i n s) h refl _ refl
-  calls_in undo h = still undo h (λ d k. refl)
-  calls_in redo h = still redo h (λ d k. refl)
-  calls_in (show k w r n) h = still (show k w r n) h (λ d e. pick_same _ d)
-  calls_in (find k i ls) h = still (find k i ls) h (λ d e. refl)
-  calls_in (count k) h = still (count k) h (λ d e. pick_same _ d)
-  calls_in (change c) h = still (change c) h (λ d e. pick_same _ d)
-  calls_in (save i n) h = still (save i n) h (λ d k. refl)
+  calls_at : (c : Call) → readable c ≡ true → (n : ℕ) → turned l here c ≡ n → Calls cs ps us c (pick (eqb n 0) (memory_for l (step l s c)) m) (says_in cs ps us c)
+  calls_at c h zero t =
+      let s' : State = step l s c in
+      let desk : For l s' (after l here c) = step_for l s here (refl, refl) (for_read here held) c t in
+      let long = length_changes (drop 16 ps) 0 (get_or ps 3 0) in
+      let few : length (paper_of cs ps).cells ≤ 1000000 = omega (arith, sound.held.cells_fit, sound.held.few_cells) in
+      let mark : Word (suc (length (paper_of cs ps).changes)) = omega (arith, long, sound.held.changes_fit, sound.held.few_changes) in
+      let tiny : OfState s' = step_small l s few good.2 mark small c (readable_small c h) in
+      calls_from c (memory_for l s') (cells_for l s'.paper) (pieces_for l s'.paper) (undo_for l s') h (holds_for l s' (after l here c) good desk)
+      (fit_for l s' (after l here c) good desk tiny)
+      (record { stands = stands_at l s' (after l here c) good desk; limits = refl; says = refl; kept = λ less. absurd (omega arith) })
+  calls_at c h (suc n) t =
+      let f = ne_eqb (suc n) 0 (λ z. omega arith) in
+      let desk = turned_keeps l (paper_of cs ps) held.sound.back held.sound.ahead here c held.desk (omega arith) in
+      rw f (calls_from c m cs ps us h holds fit (record { stands = record { sound = held.sound; desk = desk }; limits = refl; says = refl; kept = λ _. (refl, refl, refl) }))
 
 -- a list that is just as long as asked for, as opening has it
 exact : (k : ℕ) (xs ys : List ℕ) → xs ≡ ys → length xs ≡ k → xs ≡ ys ++ drop k xs
 exact k xs ys e l = e ∙ sym (append-nil ys) ∙ ap (λ (zs : List ℕ). ys ++ zs) (sym (drop_all k xs (omega arith)))
 
 opens_in : (l : Limits) → GoodLimits l → Opens l (memory_for l empty)
+unfolding back_words ahead_words
 opens_in l good =
-    let within : Within l empty = record { good = good; cells = omega arith; changes = omega arith } in
-    let holds : Holds (memory_for l empty) (cells_for l empty) (pieces_for l empty) (undo_for l) = holds_for l empty within in
+    let desk : For (staged l) empty new_desk = opens (staged l) in
+    let holds : Holds (memory_for l empty) (cells_for l empty.paper) (pieces_for l empty.paper) (undo_for l empty) = holds_for l empty new_desk good desk in
     record {
-      cells = cells_for l empty;
-      pieces = pieces_for l empty;
-      undo = undo_for l;
-      cells_before = cells_for l empty;
-      pieces_before = pieces_for l empty;
-      undo_before = undo_for l;
+      cells = cells_for l empty.paper;
+      pieces = pieces_for l empty.paper;
+      undo = undo_for l empty;
+      cells_before = cells_for l empty.paper;
+      pieces_before = pieces_for l empty.paper;
+      undo_before = undo_for l empty;
       holds = holds;
       opened = record {
-        cells = exact (cells_words l.cells) (cells_for l empty) _ (opened_cells_are l) holds.cells;
-        pieces = exact (pieces_words l.changes) (pieces_for l empty) _ (opened_pieces_are l good) holds.pieces;
-        undo = exact (undo_words l.undos) (undo_for l) (opened_undo l.undos) refl holds.undo;
-        stands = record { sound = sound_for l empty within; paper = sym (paper_is l empty within) };
-        fit = fit_for l empty within (record { cells = tt; changes = tt });
+        cells = exact (cells_words l.cells) (cells_for l empty.paper) _ (opened_cells_are l) holds.cells;
+        pieces = exact (pieces_words l.changes) (pieces_for l empty.paper) _ (opened_pieces_are l good) holds.pieces;
+        undo = exact (undo_words l.undos) (undo_for l empty) _ (no_entries l.undos) holds.undo;
+        stands = stands_at l empty new_desk good desk;
+        fit = fit_for l empty new_desk good desk (record { paper = record { cells = tt; changes = tt }; back = λ i. omega arith; ahead = λ i. omega arith });
       };
     }
 
@@ -232,6 +307,7 @@ some_keeper = (
         let s = slices m cs ps us holds in
         let a : cells_in m ≡ cs = s.0 in
         let b : pieces_in m ≡ ps = s.1 in
-        rw (a, b) (calls_in m cs ps us holds sound fit c h);
+        let d : undo_in m ≡ us = s.2 in
+        rw (a, b, d) (calls_at m cs ps us holds sound fit c h _ refl);
   },
 )

@@ -1,7 +1,9 @@
--- A list by its indices, the tables of filled pieces, words that fit, what was written read back, the canonical memory of a paper, and the keeper.
+-- A list by its indices, the tables of filled pieces, words that fit, the entries of a log, what was written read back, the canonical memory of a paper
+-- and its entries, and the keeper.
 mod Built
 mod Counts
 mod Small
+mod Entries
 mod Written
 mod Canonical
 mod Keeper

@@ -1,6 +1,7 @@
--- Words that fit four bytes: of lists, of cells and of changes, also after any call. Assumes nothing.
-use Rattle.std.proofs.Common.{◌≡◌, ℕ, zero, suc, ◌+◌, ◌*◌, ◌<◌, Bool, true, ◌&&◌, eqb, ltb, List, [], ◌∷◌, ◌++◌, length, get_or, replicate, arith}
-use Rattle.std.specs.List.{AllByRecursion}
+-- Words that fit four bytes: of lists, of cells, changes and calls, also after any call. Assumes nothing.
+use Rattle.std.proofs.Common.{◌≡◌, ℕ, zero, suc, ◌+◌, ◌*◌, ◌<◌, Bool, true, ◌&&◌, eqb, ltb, List, [], ◌∷◌, ◌++◌, length, get_or, take, drop, replicate, sym, subst, arith}
+use Rattle.std.specs.List.{between, AllByRecursion}
+use Rattle.std.proofs.lemmas.List.{take-append-drop}
 use Rattle.std.proofs.ByRecursion.{All-append, All-push, All-set, All-take, All-drop}
 use Rattle.std.proofs.lemmas.Bool.{ltb-true, and_parts}
 use Rattle.model.specs.Paper.{pick, Cell, Change, Paper, new_cells, strike, accept, reject, styled, cells_written, changes_written}
@@ -27,7 +28,21 @@ small_zeros zero i = omega arith
 small_zeros (suc n) zero = omega arith
 small_zeros (suc n) (suc i) = small_zeros n i
 
-abbrev OfCell : Cell → Type 0
+pub small_front : (vs ws : List ℕ) → Small (vs ++ ws) → Small vs
+small_front [] ws h i = omega arith
+small_front (v ∷ vs) ws h zero = h 0
+small_front (v ∷ vs) ws h (suc i) = small_front vs ws (λ j. h (suc j)) i
+
+pub small_rest : (vs ws : List ℕ) → Small (vs ++ ws) → Small ws
+small_rest [] ws h = h
+small_rest (v ∷ vs) ws h = small_rest vs ws (λ j. h (suc j))
+
+pub small_between : (ws : List ℕ) (i j : ℕ) → Small ws → Small (between i j ws)
+small_between ws i j h =
+    let rest : Small (drop i ws) = small_rest (take i ws) (drop i ws) (subst Small (sym (take-append-drop i ws)) h) in
+    small_front (between i j ws) (drop _ (drop i ws)) (subst Small (sym (take-append-drop _ (drop i ws))) rest)
+
+abbrev pub OfCell : Cell → Type 0
 OfCell x = Word x.letter × Word x.style × Word x.put_in × Word x.struck
 
 abbrev OfChange : Change → Type 0
@@ -37,6 +52,21 @@ OfChange x = Word x.author × Word x.became
 pub record OfPaper (p : Paper) : Type 0 where
   pub cells : AllByRecursion OfCell p.cells
   pub changes : AllByRecursion OfChange p.changes
+
+-- a call whose numbers, as far as they are written, fit four bytes
+abbrev pub OfCall : Call → Type 0
+OfCall (put a i s ls) = Word a × Word i × Word s × Small ls
+OfCall (strikes a i n) = Word a × Word i
+OfCall (accepts c) = Word c
+OfCall (rejects c) = Word c
+OfCall (styles i n s) = Word i × Word s
+OfCall undo = Unit {0}
+OfCall redo = Unit {0}
+OfCall (show k w r n) = Unit {0}
+OfCall (find k i ls) = Unit {0}
+OfCall (count k) = Unit {0}
+OfCall (change c) = Unit {0}
+OfCall (save i n) = Unit {0}
 
 -- written
 pub cells_small : (xs : List Cell) → AllByRecursion OfCell xs → Small (cells_written xs)
@@ -76,13 +106,10 @@ row_small w h k zero = tt
 row_small w h k (suc n) = ((h (2 * k), h (2 * k + 1)), row_small w h (suc k) n)
 
 -- rewritten: a cell is new, or it has the words of a cell before but for a mark (a new one, or 0) or the style
-new_small : (ls : List ℕ) (s c : ℕ) → all_below 256 ls ≡ true → Word s → Word (suc c) → AllByRecursion OfCell (new_cells ls s c)
-unfolding new_cells all_below
+new_small : (ls : List ℕ) (s c : ℕ) → Small ls → Word s → Word (suc c) → AllByRecursion OfCell (new_cells ls s c)
+unfolding new_cells
 new_small [] s c h i j = tt
-new_small (l ∷ ls) s c h i j =
-    let parts = and_parts (ltb l 256) (all_below 256 ls) h in
-    let below = ltb-true l 256 parts.0 in
-    ((omega arith, i, j, omega arith), new_small ls s c parts.1 i j)
+new_small (l ∷ ls) s c h i j = ((h 0, i, j, omega arith), new_small ls s c (λ k. h (suc k)) i j)
 
 -- a cell that goes or stays
 gone_small : (t : Bool) (x : Cell) (xs : List Cell) → OfCell x → AllByRecursion OfCell xs → AllByRecursion OfCell (pick t xs (x ∷ xs))
@@ -122,40 +149,27 @@ author_small [] c h = omega arith
 author_small (x ∷ cs) zero h = h.0.0
 author_small (x ∷ cs) (suc c) h = author_small cs c h.1
 
-became_small : (cs : List Change) (c b : ℕ) → Word b → AllByRecursion OfChange cs → AllByRecursion OfChange (with_became cs c b)
+pub became_small : (cs : List Change) (c b : ℕ) → Word b → AllByRecursion OfChange cs → AllByRecursion OfChange (with_became cs c b)
 became_small cs c b i h = All-set OfChange cs c _ (author_small cs c h, i) h
 
-word : (n : ℕ) → field n ≡ true → Word n
-word n h = ltb-true n 4294967296 h
-
--- what a call that bytes can carry makes of a paper whose numbers fit four bytes
-pub rewritten_small : (p : Paper) (c : Call) → readable c ≡ true → Word (suc (length p.changes)) → OfPaper p → OfPaper (rewritten p c)
-unfolding rewritten readable
+-- what a call makes of a paper
+pub rewritten_small : (p : Paper) (c : Call) → OfCall c → Word (suc (length p.changes)) → OfPaper p → OfPaper (rewritten p c)
+unfolding rewritten
 rewritten_small p (put a i s ls) r mark h =
-    let both = and_parts (field a && field i) (field s && (field (length ls) && all_below 256 ls)) r in
-    let author = and_parts (field a) (field i) both.0 in
-    let style = and_parts (field s) (field (length ls) && all_below 256 ls) both.1 in
-    let letters = and_parts (field (length ls)) (all_below 256 ls) style.1 in
-    let new = new_small ls s (length p.changes) letters.1 (word s style.0) mark in
     record {
-      cells = All-append OfCell _ _ (All-take OfCell i _ h.cells) (All-append OfCell _ _ new (All-drop OfCell i _ h.cells));
-      changes = added_small p.changes a (word a author.0) h.changes;
+      cells = All-append OfCell _ _ (All-take OfCell i _ h.cells)
+          (All-append OfCell _ _ (new_small ls s (length p.changes) r.3 r.2 mark) (All-drop OfCell i _ h.cells));
+      changes = added_small p.changes a r.0 h.changes;
     }
 rewritten_small p (strikes a i n) r mark h =
-    let author = and_parts (field a) (field i && field n) r in
     record {
       cells = All-append OfCell _ _ (All-take OfCell i _ h.cells) (strike_small _ n _ a _ mark (All-drop OfCell i _ h.cells));
-      changes = added_small p.changes a (word a author.0) h.changes;
+      changes = added_small p.changes a r.0 h.changes;
     }
 rewritten_small p (accepts c) r mark h = record { cells = accept_small _ c h.cells; changes = became_small _ c 1 (omega arith) h.changes }
 rewritten_small p (rejects c) r mark h = record { cells = reject_small _ c h.cells; changes = became_small _ c 2 (omega arith) h.changes }
 rewritten_small p (styles i n s) r mark h =
-    let both = and_parts (field i) (field n && field s) r in
-    let style = and_parts (field n) (field s) both.1 in
-    record {
-      cells = All-append OfCell _ _ (All-take OfCell i _ h.cells) (styled_small _ n s (word s style.1) (All-drop OfCell i _ h.cells));
-      changes = h.changes;
-    }
+    record { cells = All-append OfCell _ _ (All-take OfCell i _ h.cells) (styled_small _ n s r.1 (All-drop OfCell i _ h.cells)); changes = h.changes }
 rewritten_small p undo r mark h = h
 rewritten_small p redo r mark h = h
 rewritten_small p (show k w i n) r mark h = h
@@ -163,3 +177,37 @@ rewritten_small p (find k i ls) r mark h = h
 rewritten_small p (count k) r mark h = h
 rewritten_small p (change c) r mark h = h
 rewritten_small p (save i n) r mark h = h
+
+-- a call that bytes can carry
+word : (n : ℕ) → field n ≡ true → Word n
+word n h = ltb-true n 4294967296 h
+
+letters_small : (ls : List ℕ) → all_below 256 ls ≡ true → Small ls
+unfolding all_below
+letters_small [] h i = omega arith
+letters_small (l ∷ ls) h zero = let below = ltb-true l 256 (and_parts (ltb l 256) (all_below 256 ls) h).0 in omega arith
+letters_small (l ∷ ls) h (suc i) = letters_small ls (and_parts (ltb l 256) (all_below 256 ls) h).1 i
+
+pub readable_small : (c : Call) → readable c ≡ true → OfCall c
+unfolding readable
+readable_small (put a i s ls) r =
+    let both = and_parts (field a && field i) (field s && (field (length ls) && all_below 256 ls)) r in
+    let front = and_parts (field a) (field i) both.0 in
+    let style = and_parts (field s) (field (length ls) && all_below 256 ls) both.1 in
+    let letters = and_parts (field (length ls)) (all_below 256 ls) style.1 in
+    (word a front.0, word i front.1, word s style.0, letters_small ls letters.1)
+readable_small (strikes a i n) r =
+    let both = and_parts (field a) (field i && field n) r in
+    (word a both.0, word i (and_parts (field i) (field n) both.1).0)
+readable_small (accepts c) r = word c r
+readable_small (rejects c) r = word c r
+readable_small (styles i n s) r =
+    let both = and_parts (field i) (field n && field s) r in
+    (word i both.0, word s (and_parts (field n) (field s) both.1).1)
+readable_small undo r = tt
+readable_small redo r = tt
+readable_small (show k w i n) r = tt
+readable_small (find k i ls) r = tt
+readable_small (count k) r = tt
+readable_small (change c) r = tt
+readable_small (save i n) r = tt

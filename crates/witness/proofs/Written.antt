@@ -10,11 +10,6 @@ use Rattle.pieces.specs.Store.{slot, used, piece, strung}
 use Rattle.pieces.proofs.Strung.{strung_zero, strung_more}
 use Rattle.witness.proofs.Counts.{share, tables_for, order_word, used_word}
 
-pub length_cells_written : (xs : List Cell) → length (cells_written xs) ≡ 4 * length xs
-unfolding cells_written
-length_cells_written [] = refl
-length_cells_written (x ∷ xs) = omega (arith, length_cells_written xs)
-
 pub length_changes_written : (xs : List Change) → length (changes_written xs) ≡ 2 * length xs
 unfolding changes_written
 length_changes_written [] = refl

@@ -6,7 +6,7 @@ use Rattle.session.proofs.call.Goals as goal
 pub returns-in-Ok : goal.returns-in-Ok
 returns-in-Ok c =
     let a =
-    answered_well (reading c.args.bytes.now) refl c.requires.sound.undo_long c.in-Ok.ensures c.try_call.auto.answer
+    answered_well (reading c.args.bytes.now) refl c.requires.sound c.in-Ok.ensures
     (λ i. (c.type_inv.cells i).fits, λ i. (c.type_inv.pieces i).fits, λ i. (c.type_inv.undo i).fits) in
     record { called = a.called; within = a.within; rest = a.rest }
 

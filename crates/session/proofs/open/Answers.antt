@@ -4,7 +4,7 @@ use Rattle.pieces.specs.Store.{Store, cells_of, cleared_cells, cleared_words}
 use Rattle.session.specs.Contract.{enough, good_limits}
 use Rattle.session.specs.Memory.{slots_for, cells_words, pieces_words, undo_words}
 use Rattle.session.proofs.Opening.{pieces_are, stands}
-use Rattle.session.proofs.Putting.{both_true}
+use Rattle.session.proofs.Ranges.{both_true}
 use Rattle.session.proofs.open.Goals as goal
 
 pub returns : goal.returns
@@ -37,8 +37,8 @@ returns c =
       record {
         cells = cells;
         pieces = pieces_are n m u ps begun c.clear.new.p c.begin.ensures clears;
-        undo = refl;
-        stands = stands n m u ps begun c.clear.new.p c.begin.ensures clears c.clear.new.c us small_n small-m small-u (omega arith) long-ps store empty;
+        undo = c.clear-2.ensures.words;
+        stands = stands n m u ps begun c.clear.new.p c.begin.ensures clears c.clear.new.c c.clear-2.new.u small_n small-m small-u (omega arith) long-ps store empty c.clear-2.ensures.log;
         fit = (λ i. (c.type_inv.cells i).fits, λ i. (c.type_inv.pieces i).fits, λ i. (c.type_inv.undo i).fits);
       },
     )

@@ -18,6 +18,6 @@ returns c =
     let back : c.split_at_mut-head.result.1.now ≡ tables ps = rw from at c.split_at_mut-head.ensures.back in
     let slots : c.slots_in-slots.result ≡ slots_of ps = c.slots_in-slots.ensures.is in
     let row = row_before ps c.split_at_mut-head.result.0.now front c.requires.held.changes_fit in
-    let edited : Edited cs (tables ps) c.sweep_run.new.text.cells.now c.sweep_run.new.text.tables.now (slots_of ps) xs = rw (back, slots, row) at c.sweep_run.ensures.edited in
+    let edited : Edited cs (tables ps) c.sweep_run.new.text.cells.now c.sweep_run.new.text.tables.now (slots_of ps) xs = rw (back, slots, c.row_in-row.ensures.words, c.row_in-row.ensures.len, row) at c.sweep_run.ensures.edited in
     let short = length_swept_run c.args.action p.changes p.cells c.args.place c.args.n c.requires.within in
     restored c.requires.held edited (omega (arith, c.requires.held.cells_fit)) front (search rules) (search rules)

@@ -1,23 +1,59 @@
-use Rattle.std.proofs.Common.{refl, arith}
-use Rattle.model.specs.Calls.{call_number, find, redo, save, undo}
+use Rattle.std.proofs.Common.{◌<◌, refl, arith}
+use Rattle.model.specs.Calls.{call_number, change, count, find, number}
+use Rattle.model.specs.Values.{way_number}
+use Rattle.session.proofs.Looking.{find_range}
 use Rattle.session.proofs.Ranges.{count_range}
-use Rattle.session.proofs.Saying.{out_of_range}
+use Rattle.session.proofs.Serving.{looked_handled}
+use Rattle.session.specs.Refusals.{outcome}
 use Rattle.session.proofs.desk.Desk.act.Goals as goal
 
 pub put-requires : goal.put-requires
-put-requires c = record { good = rw c.in-Put.is at c.requires.good }
+put-requires c = record { sound = c.requires.sound; good = rw c.in-Put.is at c.requires.good }
 
 pub strike-requires : goal.strike-requires
-strike-requires c = record { good = rw c.in-Strike.is at c.requires.good }
+strike-requires c = record { sound = c.requires.sound; good = rw c.in-Strike.is at c.requires.good }
 
 pub style-requires : goal.style-requires
-style-requires c = record { good = rw c.in-Style.is at c.requires.good }
+style-requires c = record { sound = c.requires.sound; good = rw c.in-Style.is at c.requires.good }
 
 pub returns-in_err-way-in-Count : goal.returns-in_err-way-in-Count
 returns-in_err-way-in-Count c =
     let good = count_range c.in-Count.way (rw c.in-Count.is at c.requires.good) in
     let bad = c.in_err-way-in-Count.ensures.1 in
     absurd (omega (arith, good, bad))
+
+pub returns-in_default-try_from : goal.returns-in_default-try_from
+returns-in_default-try_from c =
+    let good : c.in-Find.way < 3 =
+    (find_range c.args.self.now.cells.now c.args.self.now.pieces.now c.in-Find.way c.in-Find.from c.args.letters.now c.args.self.now.held (rw c.in-Find.is at c.requires.good)).0 in
+    let bad = c.in_default-try_from.ensures.1 in
+    absurd (omega (arith, good, bad))
+
+pub returns-in-Ok : goal.returns-in-Ok
+unfolding call_number
+returns-in-Ok c =
+    rw c.in-Count.is record {
+      same_cells = refl;
+      same_pieces = refl;
+      same_undo = refl;
+      handled =
+          rw c.in-Ok.ensures at
+          (looked_handled c.args.self.now.cells.now c.args.self.now.pieces.now c.args.self.now.undo.now (count (way_number c.in-Ok.way)) refl (number c.count.result)
+          (omega arith) c.count.ensures);
+    }
+
+pub returns-in-Ok-try_from : goal.returns-in-Ok-try_from
+unfolding call_number
+returns-in-Ok-try_from c =
+    rw c.in-Find.is record {
+      same_cells = refl;
+      same_pieces = refl;
+      same_undo = refl;
+      handled =
+          rw c.in-Ok-try_from.ensures at
+          (looked_handled c.args.self.now.cells.now c.args.self.now.pieces.now c.args.self.now.undo.now (find (way_number c.in-Ok-try_from.way) c.in-Find.from c.args.letters.now) refl
+          (number c.find.result) (omega arith) c.find.ensures);
+    }
 
 pub returns-in-Put : goal.returns-in-Put
 returns-in-Put c = rw c.in-Put.is c.put.ensures
@@ -35,40 +71,18 @@ pub returns-in-Style : goal.returns-in-Style
 returns-in-Style c = rw c.in-Style.is c.style.ensures
 
 pub returns-in-Change : goal.returns-in-Change
-returns-in-Change c = rw c.in-Change.is record { same_cells = refl; same_pieces = refl; acted = c.ask.ensures }
+unfolding call_number
+returns-in-Change c =
+    rw c.in-Change.is record {
+      same_cells = refl;
+      same_pieces = refl;
+      same_undo = refl;
+      handled =
+          looked_handled c.args.self.now.cells.now c.args.self.now.pieces.now c.args.self.now.undo.now (change c.in-Change.change) refl (outcome c.ask.result) (omega arith) c.ask.ensures;
+    }
 
 pub returns-in-Undo : goal.returns-in-Undo
-unfolding call_number
-returns-in-Undo c =
-    rw c.in-Undo.is record {
-      same_cells = refl;
-      same_pieces = refl;
-      acted = out_of_range c.args.self.now.cells.now c.args.self.now.pieces.now undo c.args.self.now.held refl;
-    }
+returns-in-Undo c = rw c.in-Undo.is c.undo.ensures
 
 pub returns-in-Redo : goal.returns-in-Redo
-unfolding call_number
-returns-in-Redo c =
-    rw c.in-Redo.is record {
-      same_cells = refl;
-      same_pieces = refl;
-      acted = out_of_range c.args.self.now.cells.now c.args.self.now.pieces.now redo c.args.self.now.held refl;
-    }
-
-pub returns-in-Find : goal.returns-in-Find
-unfolding call_number
-returns-in-Find c =
-    rw c.in-Find.is record {
-      same_cells = refl;
-      same_pieces = refl;
-      acted = out_of_range c.args.self.now.cells.now c.args.self.now.pieces.now (find c.in-Find.way c.in-Find.from c.args.letters.now) c.args.self.now.held refl;
-    }
-
-pub returns-in-Save : goal.returns-in-Save
-unfolding call_number
-returns-in-Save c =
-    rw c.in-Save.is record {
-      same_cells = refl;
-      same_pieces = refl;
-      acted = out_of_range c.args.self.now.cells.now c.args.self.now.pieces.now (save c.in-Save.from c.in-Save.count) c.args.self.now.held refl;
-    }
+returns-in-Redo c = rw c.in-Redo.is c.redo.ensures

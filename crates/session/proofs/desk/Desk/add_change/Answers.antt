@@ -7,4 +7,10 @@ invariant_of-self c = record { held = (added c.add.new.words c.args.author c.arg
 
 pub returns : goal.returns
 returns c =
-    record { same_cells = refl; same_pieces = refl; wrote = added c.add.new.words c.args.author c.args.self.now.held c.requires c.add.ensures.words c.add.ensures.row }
+    record {
+      same_cells = refl;
+      same_pieces = refl;
+      same_undo = refl;
+      wrote = added c.add.new.words c.args.author c.args.self.now.held c.requires c.add.ensures.words c.add.ensures.row;
+      log = refl;
+    }

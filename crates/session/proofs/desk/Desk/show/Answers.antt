@@ -24,4 +24,4 @@ returns c =
     let tab : c.text.result.tables.now ≡ tables ps = c.text.ensures.tables in
     let slots : c.text.result.slots ≡ slots_of ps = c.text.ensures.slots in
     let s : Shown (rows q.width (view k (paper_of cs ps).cells)) q.first q.count c.args.answer.now c.show.new.out c.show.result = rw (cells, tab, slots) at c.show.ensures in
-    show_ended cs ps k q.width q.first q.count c.args.self.now.held c.requires.good c.args.answer.now c.show.new.out c.show.result c.ok_or.ensures.value s
+    show_ended cs ps k q.width q.first q.count c.args.self.now.held c.requires.good c.args.self.now.undo.now c.args.answer.now c.show.new.out c.show.result c.ok_or.ensures.value c.show.auto.out s

@@ -7,17 +7,21 @@ returns-in_default c =
     record {
       same_cells = refl;
       same_pieces = refl;
-      acted =
-          style_nowhere c.args.self.now.cells.now c.args.self.now.pieces.now c.args.self.now.held c.args.place c.args.count c.args.style c.requires.good
+      same_undo = refl;
+      handled =
+          style_nowhere c.args.self.now.cells.now c.args.self.now.pieces.now c.args.self.now.held c.args.self.now.undo.now c.args.place c.args.count c.args.style c.requires.good
           (rw c.count_cells-total.ensures at c.in_default.ensures);
     }
 
 pub returns : goal.returns
 returns c =
+    let e = c.write_style.ensures in
     record {
-      same_cells = refl;
-      same_pieces = refl;
-      acted =
-          style_done c.args.self.now.cells.now c.args.self.now.pieces.now c.args.self.now.held c.args.place c.args.count c.args.style c.requires.good c.in-Some.ensures.0
-          (rw c.count_cells-total.ensures at c.in-Some.ensures.1) c.sweep_run.ensures;
+      same_cells = e.same_cells;
+      same_pieces = e.same_pieces;
+      same_undo = e.same_undo;
+      handled =
+          rw e.log (
+          style_done c.args.self.now.cells.now c.args.self.now.pieces.now c.args.self.now.held c.args.self.now.undo.now c.args.place c.args.count c.args.style c.requires.good
+          c.in-Some.ensures.0 (rw c.count_cells-total.ensures at c.in-Some.ensures.1) c.style.ensures e.wrote);
     }

@@ -1,0 +1,7 @@
+use Rattle.session.specs.Memory.{paper_of}
+use Rattle.session.proofs.recording.decision.Goals as goal
+
+pub returns : goal.returns
+returns c =
+    let e = c.text_in-text.ensures in
+    record { records = rw (e.cells, e.tables, e.slots) at (c.decision.ensures.records (paper_of c.args.cells.now c.args.pieces.now).changes); beyond = c.decision.ensures.rest; undo_length = c.decision.auto.u }
