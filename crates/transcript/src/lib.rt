@@ -1,14 +1,14 @@
 // The answers to a file of calls, a line for each. What they are is in specs/.
 #![tactic(auto)]
 
-ghost use Rattle.std.specs.Prelude.{◌≡◌, ◌<◌, true, [], ◌∷◌, length, MatchOption, MatchResult};
+ghost use Rattle.std.specs.Prelude.{◌≡◌, true, MatchResult};
 ghost use Rattle.model.specs.Calls.{Answer as Saying};
 ghost use Rattle.codec.specs.Bytes.{answer_bytes};
 ghost use Rattle.session.specs.Refusals.{refusal_told};
 ghost use Rattle.text.specs.Lines.{Lacks, limits_reading};
 ghost use Rattle.text.specs.Shown.{showable};
 ghost use Rattle.transcript.specs.Serving.{Appends, LimitsFound, RoomFound};
-ghost use Rattle.transcript.specs.Transcript.{AnswersCalls, answers_after, call_lines, lines_of, passed_over, told_line, told_lines, transcript};
+ghost use Rattle.transcript.specs.Transcript.{AnswersCalls, passed_over, told_line, transcript};
 
 mod open;
 

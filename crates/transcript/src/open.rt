@@ -1,5 +1,5 @@
 // An open desk in memory of its own.
-ghost use Rattle.std.specs.Prelude.{◌≡◌, ◌≤◌, true, take, IfOk, vec_len};
+ghost use Rattle.std.specs.Prelude.{◌≡◌, ◌≤◌, true, IfOk, vec_len};
 ghost use Rattle.std.proofs.Props.{props};
 ghost use Rattle.session.specs.Memory.{Sound};
 ghost use Rattle.transcript.specs.Transcript.{room_for};
@@ -23,10 +23,9 @@ pub(crate) struct OpenDesk {
 }
 
 impl OpenDesk {
-    ghost use Rattle.model.specs.Calls.{Desk, new_desk};
-    ghost use Rattle.session.specs.Contract.{Called};
-    ghost use Rattle.transcript.specs.Transcript.{call_lines, limits_for, line_answers, told_lines};
-    ghost use Rattle.transcript.specs.Serving.{Answered, Appends, CallDone, Reached};
+    ghost use Rattle.model.specs.Calls.{new_desk};
+    ghost use Rattle.transcript.specs.Transcript.{limits_for};
+    ghost use Rattle.transcript.specs.Serving.{Answered, CallDone};
     ghost use Rattle.transcript.specs.Open.{StandsFor, limits_at};
 
     // An empty desk with these limits.
