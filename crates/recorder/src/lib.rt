@@ -44,6 +44,7 @@ fn copy_letters(words: &mut [u32], letters: &[u8])
 
 // An author is about to put letters in at a place, in one style.
 // `u` and `limit` stand apart, here and below, for the reason in history's log.
+// Each of the four makes room, writes and seals: a function that took the writing as a closure would have to say of any call of it what it asks and what it leaves, in more lines than it saves here.
 pub fn put(u: &mut [u32], limit: u32, author: u32, place: u32, style: u32, letters: &[u8])
     requires log { Keeps u.old limit }
     requires few { length letters.now ≤ 1024 }
