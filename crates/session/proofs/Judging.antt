@@ -5,7 +5,7 @@ use Rattle.model.specs.Paper.{pick, Paper, Cell, Change, touched}
 use Rattle.model.specs.Calls.{change, number, two, refused, call_number, good_fields, good_call, became, turned_by, with_became, writes, rewritten, moved, fits, turned, told, place}
 use Rattle.changes.specs.Row.{change_at}
 use Rattle.changes.proofs.Steps.{change_in, length_changes}
-use Rattle.sweep.specs.Sweep.{swept}
+use Rattle.sweep.specs.Sweep.{concerned, swept}
 use Rattle.sweep.proofs.Laws.{one_meaning}
 use Rattle.model.specs.Values.{verdict_number}
 use Rattle.model.specs.declared.verdict.Verdict.{Verdict}
@@ -68,6 +68,10 @@ module _ (cs ps : List ℕ) (held : Held cs ps) (k : ℕ) where
   unfolding told
   told_is Accepted = refl
   told_is Rejected = refl
+
+  pub concerned_by : (v : Verdict) → concerned (verdict_action v k) (paper_of cs ps).cells ≡ touched (paper_of cs ps).cells k
+  concerned_by Accepted = refl
+  concerned_by Rejected = refl
 
   abbrev after_it : Verdict → Paper
   after_it v = record { cells = swept (verdict_action v k) (paper_of cs ps).changes (paper_of cs ps).cells; changes = with_became (paper_of cs ps).changes k (verdict_number v) }

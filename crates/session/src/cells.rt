@@ -1,10 +1,10 @@
 // Changes of the text in the desk's memory. These are functions of both slices and not methods of `Desk`: that a part of one field is lent while the
 // other field is used gets no proof yet.
-ghost use Rattle.std.specs.Prelude.{◌+◌, ◌<◌, ◌≤◌, ◌++◌, length, take, drop, slice_index};
+ghost use Rattle.std.specs.Prelude.{◌≡◌, ◌+◌, ◌<◌, ◌≤◌, ◌++◌, length, take, drop, slice_index};
 ghost use Rattle.model.specs.Paper.{new_cells};
 ghost use Rattle.session.specs.Acts.{Wrote, with_cells};
 ghost use Rattle.session.specs.Memory.{Held, paper_of};
-ghost use Rattle.sweep.specs.Sweep.{swept, swept_run};
+ghost use Rattle.sweep.specs.Sweep.{concerned, swept, swept_run};
 
 use crate::desk::{HEAD, slots_in, tables_from};
 use changes::Row;
@@ -59,10 +59,11 @@ pub fn sweep_run(cells: &mut [u32], pieces: &mut [u32], place: usize, n: usize, 
     sweep::sweep_run(&mut text, &row, place, n, action);
 }
 
-/// All cells are swept. (Of both slices, for the reason above.)
-pub fn sweep_all(cells: &mut [u32], pieces: &mut [u32], action: Action)
+/// All cells are swept. Returns how many of them the action was about. (Of both slices, for the reason above.)
+pub fn sweep_all(cells: &mut [u32], pieces: &mut [u32], action: Action) -> u32
     requires { Held cells.old pieces.old }
-    ensures { Wrote cells.old pieces.old cells.new pieces.new (with_cells (paper_of cells.old pieces.old) (swept action (paper_of cells.old pieces.old).changes (paper_of cells.old pieces.old).cells)) }
+    ensures wrote { Wrote cells.old pieces.old cells.new pieces.new (with_cells (paper_of cells.old pieces.old) (swept action (paper_of cells.old pieces.old).changes (paper_of cells.old pieces.old).cells)) }
+    ensures count { result ≡ concerned action (paper_of cells.old pieces.old).cells }
 {
     let slots = slots_in(pieces);
     let from = tables_from(pieces);
@@ -76,5 +77,5 @@ pub fn sweep_all(cells: &mut [u32], pieces: &mut [u32], action: Action)
         tables,
         slots,
     };
-    sweep::sweep_all(&mut text, &row, action);
+    sweep::sweep_all(&mut text, &row, action)
 }

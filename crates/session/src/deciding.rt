@@ -78,12 +78,11 @@ impl<'a> Desk<'a> {
         if found.became != 0 {
             return Err(Refusal::NotOpen);
         }
-        let marked = self.touched(change);
         let action = match verdict {
             Verdict::Accepted => Action::Accept { change },
             Verdict::Rejected => Action::Reject { change },
         };
-        cells::sweep_all(self.cells, self.pieces, action);
+        let marked = cells::sweep_all(self.cells, self.pieces, action);
         self.judge(change, verdict);
         Ok(Answer::Number(marked))
     }

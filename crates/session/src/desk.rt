@@ -42,7 +42,6 @@ pub fn tables_from(pieces: &[u32]) -> usize
 impl<'a> Desk<'a> {
     ghost use Rattle.changes.specs.Row.{change_at};
     ghost use Rattle.model.specs.Calls.{with_became};
-    ghost use Rattle.model.specs.Paper.{touched as touches};
     ghost use Rattle.model.specs.Values.{change_of, verdict_number};
     ghost use Rattle.session.specs.Acts.{allows, with_changes};
     ghost use Rattle.session.specs.Desks.{Writes, paper_in};
@@ -67,13 +66,6 @@ impl<'a> Desk<'a> {
         ensures { result ≡ length (paper_in self.now).cells }
     {
         self.text().count()
-    }
-
-    /// How many cells have the mark of a change.
-    pub fn touched(&self, change: u32) -> u32
-        ensures { result ≡ touches (paper_in self.now).cells change }
-    {
-        sweep::touched(&self.text(), change)
     }
 
     /// The row of changes.

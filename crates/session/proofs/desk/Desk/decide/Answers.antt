@@ -1,7 +1,7 @@
 use Rattle.std.proofs.Common.{◌≡◌, refl, arith}
 use Rattle.std.proofs.lemmas.Result.{err_from_is_err_and}
 use Rattle.model.specs.Values.{change_of}
-use Rattle.session.proofs.Judging.{decide_closed, decide_none, decided}
+use Rattle.session.proofs.Judging.{concerned_by, decide_closed, decide_none, decided}
 use Rattle.session.proofs.Putting.{still}
 use Rattle.session.specs.Acts.{verdict_action}
 use Rattle.session.proofs.desk.Desk.decide.Goals.{in-Accepted, in-Rejected}
@@ -27,7 +27,7 @@ returns-then-found-ne0 c =
     }
 
 pub judge-requires : goal.judge-requires
-judge-requires c = let same = still c.sweep_all.ensures in omega (arith, same.0, c.in_ok-found.ensures.0)
+judge-requires c = let same = still c.sweep_all-marked.ensures.wrote in omega (arith, same.0, c.in_ok-found.ensures.0)
 
 pub returns : goal.returns
 returns c =
@@ -41,7 +41,7 @@ returns c =
       same_cells = c.judge.ensures.same_cells;
       same_pieces = c.judge.ensures.same_pieces;
       acted =
-          rw c.touched-marked.ensures
+          rw (c.sweep_all-marked.ensures.count, action, concerned_by c.args.self.now.cells.now c.args.self.now.pieces.now c.args.self.now.held k v)
           (decided c.args.self.now.cells.now c.args.self.now.pieces.now c.args.self.now.held k v (change_of c.in_ok-found.found) c.in_ok-found.ensures.0
-          c.in_ok-found.ensures.1 c.if-found-ne0.false (rw action at c.sweep_all.ensures) c.judge.ensures.wrote);
+          c.in_ok-found.ensures.1 c.if-found-ne0.false (rw action at c.sweep_all-marked.ensures.wrote) c.judge.ensures.wrote);
     }
