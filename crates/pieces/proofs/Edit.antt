@@ -9,7 +9,7 @@ use Rattle.tree.specs.Tree.{Sums}
 use Rattle.std.specs.List.{AllByRecursion}
 use Rattle.pieces.specs.Marks.{Marks, with_set, noted_cells, Beside, Grown}
 use Rattle.pieces.specs.Store.{slot, used, piece, cells_of, before, Marked, Order, Store, Frame, Edited}
-use Rattle.pieces.specs.Edits.{replaced, Changed, Cut}
+use Rattle.pieces.specs.Edits.{replaced, Changed, Cut, SameText}
 use Rattle.pieces.proofs.Texts.{length_piece, length_text, before_more, before_within}
 use Rattle.pieces.proofs.Sets.{sums_beside, marks_moved, beside_both, set_beside, set_apart, cells_noted}
 use Rattle.pieces.proofs.Change.{changed_text, changed_marked, carried, length_replaced, replaced_here, resized_none, resized_grown, frame_both, frame_none}
@@ -167,6 +167,11 @@ module _ (c p q : List ℕ) (s : ℕ) (t : Store c p s) (h : Beside p q) where
         frame = record { cells_long = refl; words_long = h.long; cells_past = refl; words_past = h.past; spare = λ k a b. h.below k (omega arith) };
         text = strung_same (piece c q) (piece c p) 0 0 s (λ j a. beside_piece (0 + j) (omega arith));
       }
+
+  pub beside_same : Store c q s → SameText c p c q s
+  beside_same u =
+      let e = beside_edited u in
+      record { order = u.table.order; frame = e.frame; text = e.text; marked = λ mk. u.marked }
 
 -- sets that have grown
 pub grown_store : (c p q : List ℕ) (s : ℕ) → Store c p s → Grown p q → Store c q s

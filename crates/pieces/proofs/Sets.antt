@@ -2,13 +2,13 @@
 use Rattle.std.proofs.Common.{◌≡◌, ℕ, ◌+◌, ◌*◌, ◌/◌, ◌%◌, ◌^◌, ◌<◌, ◌≤◌, max, true, false, ◌≢◌, List, [], ◌∷◌, length, get_or, drop, set, sym, refl, ap, ◌∙◌, inl, inr, one-mul, arith}
 use lib.Bits.{bit_or, or_step}
 use Rattle.std.specs.List.{AllByRecursion}
-use Rattle.std.proofs.lemmas.Nat.{or_shr, or_comm, shl-shr, one_shl}
+use Rattle.std.proofs.lemmas.Nat.{or_shr, or_comm, shl-shr}
 use Rattle.std.proofs.ByRecursion.{All-weaker}
 use Rattle.std.proofs.lemmas.List.{length-set, get_or-set_same, get_or-set_other, drop-set-lt, get_or-drop, length-drop}
 use Rattle.std.proofs.lemmas.Bool.{cases_eq, eq-eqb, ne_eqb}
 use Rattle.model.specs.Paper.{Cell}
 use Rattle.tree.specs.Tree.{Sums}
-use Rattle.pieces.specs.Marks.{Bit, Has, has, Marks, Lacks, with_set, noted, noted_cells, Beside, Grown, Joined}
+use Rattle.pieces.specs.Marks.{Bit, Bits, Has, has, Marks, Lacks, two_bits, with_set, noted, noted_cells, Beside, Grown, Joined}
 
 odd : (a b : ℕ) → a % 2 ≡ 1 → bit_or a b % 2 ≡ 1
 odd a b h =
@@ -24,6 +24,15 @@ bit_right w v j h = rw (or_comm w v) (bit_left v w j h)
 
 bit_own : (j : ℕ) → Bit (2 ^ j) j
 bit_own j = let e : 2 ^ j / 2 ^ j ≡ 1 = rw one-mul at (shl-shr 1 j) in rw e
+
+bits_left : (w v i j : ℕ) → Bits w i j → Bits (bit_or w v) i j
+bits_left w v i j h = (bit_left w v i h.0, bit_left w v j h.1)
+
+bits_right : (w v i j : ℕ) → Bits v i j → Bits (bit_or w v) i j
+bits_right w v i j h = (bit_right w v i h.0, bit_right w v j h.1)
+
+bits_own : (i j : ℕ) → Bits (two_bits i j) i j
+bits_own i j = (bit_left (2 ^ i) (2 ^ j) i (bit_own i), bit_right (2 ^ i) (2 ^ j) j (bit_own j))
 
 -- the words of slot a written
 module _ (p : List ℕ) (a x y : ℕ) (l : a < 2048) (w : 10240 ≤ length p) where
@@ -50,18 +59,18 @@ module _ (p : List ℕ) (a x y : ℕ) (l : a < 2048) (w : 10240 ≤ length p) wh
   set_apart i m b ne h =
       record { low = rw (set_other (6144 + i) (omega arith) (omega arith)) h.low; high = rw (set_other (8192 + i) (omega arith) (omega arith)) h.high }
 
-  set_has : (m : ℕ) → Bit x (m % 32) → Bit y (m / 32 % 32) → Has (with_set p a x y) a m
+  set_has : (m : ℕ) → Bits x (m % 32) (m % 31) → Bits y (m / 32 % 32) (m % 29) → Has (with_set p a x y) a m
   set_has m b c = record { low = rw set_low b; high = rw set_high c }
 
 -- bits x and y added to the words of slot a
 module _ (p : List ℕ) (a x y : ℕ) (l : a < 2048) (w : 10240 ≤ length p) where
-  more_has : (m : ℕ) → Bit x (m % 32) → Bit y (m / 32 % 32) → Has (with_set p a (bit_or (get_or p (6144 + a) 0) x) (bit_or (get_or p (8192 + a) 0) y)) a m
+  more_has : (m : ℕ) → Bits x (m % 32) (m % 31) → Bits y (m / 32 % 32) (m % 29) → Has (with_set p a (bit_or (get_or p (6144 + a) 0) x) (bit_or (get_or p (8192 + a) 0) y)) a m
   more_has m b c =
-      set_has p a _ _ l w m (bit_right (get_or p (6144 + a) 0) x (m % 32) b) (bit_right (get_or p (8192 + a) 0) y (m / 32 % 32) c)
+      set_has p a _ _ l w m (bits_right (get_or p (6144 + a) 0) x (m % 32) (m % 31) b) (bits_right (get_or p (8192 + a) 0) y (m / 32 % 32) (m % 29) c)
 
   more_kept : (m : ℕ) → Has p a m → Has (with_set p a (bit_or (get_or p (6144 + a) 0) x) (bit_or (get_or p (8192 + a) 0) y)) a m
   more_kept m h =
-      set_has p a _ _ l w m (bit_left (get_or p (6144 + a) 0) x (m % 32) h.low) (bit_left (get_or p (8192 + a) 0) y (m / 32 % 32) h.high)
+      set_has p a _ _ l w m (bits_left (get_or p (6144 + a) 0) x (m % 32) (m % 31) h.low) (bits_left (get_or p (8192 + a) 0) y (m / 32 % 32) (m % 29) h.high)
 
   more_grown : Grown p (with_set p a (bit_or (get_or p (6144 + a) 0) x) (bit_or (get_or p (8192 + a) 0) y))
   more_grown =
@@ -88,22 +97,19 @@ pub noted_grown : (p : List ℕ) (i m : ℕ) → i < 2048 → 10240 ≤ length p
 noted_grown p i m l w =
     elim (cases_eq m 0) [
       | inl e ↦ rw (eq-eqb m 0 e) (grown_none p)
-      | inr ne ↦ rw (ne_eqb m 0 ne) (more_grown p i (2 ^ (m % 32)) (2 ^ (m / 32 % 32)) l w)
+      | inr ne ↦ rw (ne_eqb m 0 ne) (more_grown p i (two_bits (m % 32) (m % 31)) (two_bits (m / 32 % 32) (m % 29)) l w)
     ]
 
 pub noted_has : (p : List ℕ) (i m : ℕ) → i < 2048 → 10240 ≤ length p → 0 < m → Has (noted p i m) i m
 noted_has p i m l w some =
-    rw (ne_eqb m 0 (λ e. omega arith)) (more_has p i (2 ^ (m % 32)) (2 ^ (m / 32 % 32)) l w m (bit_own (m % 32)) (bit_own (m / 32 % 32)))
+    rw (ne_eqb m 0 (λ e. omega arith)) (more_has p i (two_bits (m % 32) (m % 31)) (two_bits (m / 32 % 32) (m % 29)) l w m (bits_own (m % 32) (m % 31)) (bits_own (m / 32 % 32) (m % 29)))
 
 pub noted_none : (p : List ℕ) (i m : ℕ) → m ≡ 0 → p ≡ noted p i m
 noted_none p i m e = rw (eq-eqb m 0 e)
 
-pub noted_is : (p : List ℕ) (i m : ℕ) → (m ≡ 0 → ⊥)
-    → with_set p i (bit_or (get_or p (6144 + i) 0) ((1 * 2 ^ (m % 32)) % 2 ^ 32)) (bit_or (get_or p (8192 + i) 0) ((1 * 2 ^ (m / 32 % 32)) % 2 ^ 32)) ≡ noted p i m
-noted_is p i m ne =
-    let a = one_shl (m % 32) 32 (omega arith) in
-    let b = one_shl (m / 32 % 32) 32 (omega arith) in
-    rw (a, b, ne_eqb m 0 ne)
+pub noted_is : (p : List ℕ) (i m low high : ℕ) → (m ≡ 0 → ⊥) → low ≡ two_bits (m % 32) (m % 31) → high ≡ two_bits (m / 32 % 32) (m % 29)
+    → with_set p i (bit_or (get_or p (6144 + i) 0) low) (bit_or (get_or p (8192 + i) 0) high) ≡ noted p i m
+noted_is p i m low high ne e f = rw (e, f, ne_eqb m 0 ne)
 
 pub beside_both : (p q r : List ℕ) → Beside p q → Beside q r → Beside p r
 beside_both p q r g h = record { long = h.long ∙ g.long; below = λ w l. h.below w l ∙ g.below w l; past = h.past ∙ g.past }
@@ -159,8 +165,10 @@ marks_moved p q i j xs h all =
 -- a set without the mark
 pub has_not : (p : List ℕ) (i m : ℕ) → has p i m ≡ false → Has p i m → ⊥
 has_not p i m e h =
-    let a = eq-eqb _ _ h.low in
-    let b = eq-eqb _ _ h.high in
+    let a = eq-eqb _ _ h.low.0 in
+    let b = eq-eqb _ _ h.low.1 in
+    let c = eq-eqb _ _ h.high.0 in
+    let d = eq-eqb _ _ h.high.1 in
     let f : true ≡ false = cc in
     true_false f
   where

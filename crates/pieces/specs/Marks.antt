@@ -1,5 +1,5 @@
--- The set of marks of a slot: two words. The mark m stands for bit m % 32 of the first and bit m / 32 % 32 of the second, so that a set which lacks one of
--- the two bits does not have the mark. Mark 0 stands for none, and is in no set.
+-- The set of marks of a slot: two words. The mark m stands for two bits of each: m % 32 and m % 31 of the first, m / 32 % 32 and m % 29 of the second. So a
+-- set which lacks one of the four does not have the mark; and few others stand for the same four. Mark 0 stands for none, and is in no set.
 use Rattle.std.specs.Prelude.{◌≡◌, ℕ, ◌+◌, ◌/◌, ◌%◌, ◌^◌, ◌<◌, Bool, ◌&&◌, ◌≢◌, List, [], ◌∷◌, length, drop, ◌==◌, bit_or, slice_index, slice_set}
 use Rattle.model.specs.Paper.{pick, Cell}
 
@@ -7,14 +7,22 @@ use Rattle.model.specs.Paper.{pick, Cell}
 abbrev pub Bit : ℕ → ℕ → Type 0
 Bit w j = w / 2 ^ j % 2 ≡ 1
 
+-- bits j and k are
+abbrev pub Bits : ℕ → ℕ → ℕ → Type 0
+Bits w j k = Bit w j × Bit w k
+
+-- the same as a test
+abbrev pub bits : ℕ → ℕ → ℕ → Bool
+bits w j k = w / 2 ^ j % 2 == 1 && w / 2 ^ k % 2 == 1
+
 -- the set of slot i has the mark m
 pub record Has (p : List ℕ) (i m : ℕ) : Type 0 where
-  pub low : Bit (slice_index p (6144 + i)) (m % 32)
-  pub high : Bit (slice_index p (8192 + i)) (m / 32 % 32)
+  pub low : Bits (slice_index p (6144 + i)) (m % 32) (m % 31)
+  pub high : Bits (slice_index p (8192 + i)) (m / 32 % 32) (m % 29)
 
 -- the same as a test
 abbrev pub has : List ℕ → ℕ → ℕ → Bool
-has p i m = slice_index p (6144 + i) / 2 ^ (m % 32) % 2 == 1 && slice_index p (8192 + i) / 2 ^ (m / 32 % 32) % 2 == 1
+has p i m = bits (slice_index p (6144 + i)) (m % 32) (m % 31) && bits (slice_index p (8192 + i)) (m / 32 % 32) (m % 29)
 
 -- the set of slot i has both marks of the cell
 pub record Marks (p : List ℕ) (i : ℕ) (x : Cell) : Type 0 where
@@ -30,9 +38,14 @@ pub record Lacks (m : ℕ) (x : Cell) : Type 0 where
 abbrev pub with_set : List ℕ → ℕ → ℕ → ℕ → List ℕ
 with_set p i low high = slice_set (slice_set p (6144 + i) low) (8192 + i) high
 
+-- a word with bits j and k alone
+abbrev pub two_bits : ℕ → ℕ → ℕ
+two_bits j k = bit_or (2 ^ j) (2 ^ k)
+
 -- the set of slot i with the mark m added, if it is one
 abbrev pub noted : List ℕ → ℕ → ℕ → List ℕ
-noted p i m = pick (m == 0) p (with_set p i (bit_or (slice_index p (6144 + i)) (2 ^ (m % 32))) (bit_or (slice_index p (8192 + i)) (2 ^ (m / 32 % 32))))
+noted p i m =
+    pick (m == 0) p (with_set p i (bit_or (slice_index p (6144 + i)) (two_bits (m % 32) (m % 31))) (bit_or (slice_index p (8192 + i)) (two_bits (m / 32 % 32) (m % 29))))
 
 -- with all marks of the cells added
 unfoldable pub noted_cells : List ℕ → ℕ → List Cell → List ℕ

@@ -6,7 +6,7 @@
 ghost use Rattle.std.specs.Prelude.{◌≡◌, ℕ, ◌+◌, ◌-◌, ◌*◌, ◌/◌, ◌<◌, ◌≤◌, false, ◌≢◌, List, [], ◌++◌, length, take, drop};
 ghost use Rattle.std.specs.List.{range_with_len, AllByRecursion};
 ghost use Rattle.pieces.specs.Store.{used as uses, slot, number, piece, cells_of, before, cleared_cells, cleared_words, Located, Order, Table, Store};
-ghost use Rattle.pieces.specs.Marks.{has, noted, noted_cells, with_set, Beside, Grown, Has, Joined, Lacks, Marks};
+ghost use Rattle.pieces.specs.Marks.{bits, has, noted, noted_cells, two_bits as two_bits_set, with_set, Beside, Grown, Has, Joined, Lacks, Marks};
 ghost use Rattle.pieces.specs.Edits.{replaced, Changed, Cut, Filled, Packed, Recounted, Resized, Rotated, SameText, Shifted};
 ghost use Rattle.slots.specs.Cells.{all_cells};
 ghost use Rattle.tree.specs.Tree.{Sums};
@@ -82,6 +82,24 @@ pub fn locate(p: &[u32], s: usize, place: usize) -> Spot
     tree::find(&p[TREE..], place)
 }
 
+// Whether bits `i` and `j` of a word are set.
+fn has_bits(word: u32, i: u32, j: u32) -> bool
+    requires first { i < 32 }
+    requires second { j < 32 }
+    ensures { result ≡ bits word i j }
+{
+    ((word >> i) % 2 == 1) & ((word >> j) % 2 == 1)
+}
+
+// A word with bits `i` and `j` alone.
+fn two_bits(i: u32, j: u32) -> u32
+    requires first { i < 32 }
+    requires second { j < 32 }
+    ensures { result ≡ two_bits_set i j }
+{
+    (1 << i) | (1 << j)
+}
+
 // Whether piece `k` may have a cell with the mark. If not, it has none.
 pub fn may_have(p: &[u32], s: usize, k: usize, mark: u32) -> bool
     requires order { Order p.now s }
@@ -91,9 +109,9 @@ pub fn may_have(p: &[u32], s: usize, k: usize, mark: u32) -> bool
     ensures lacks { result ≡ false → (c : List ℕ) → Store c p.now s → AllByRecursion (Lacks mark) (piece c p.now k) }
 {
     let i = p[k] as usize;
-    let low = (p[LOW + i] >> (mark % 32)) % 2;
-    let high = (p[HIGH + i] >> (mark / 32 % 32)) % 2;
-    (low == 1) & (high == 1)
+    let low = has_bits(p[LOW + i], mark % 32, mark % 31);
+    let high = has_bits(p[HIGH + i], mark / 32 % 32, mark % 29);
+    low & high
 }
 
 // The set of marks of piece `k` gets the mark.
@@ -123,6 +141,19 @@ pub fn remark(c: &[u32], p: &mut [u32], s: usize, k: usize)
     p[LOW + i] = 0;
     p[HIGH + i] = 0;
     note_cells(p, i, slots::part(c, CELLS * i, n));
+}
+
+// Makes the sets of marks of all pieces anew. (It tells no more of them than what always holds, as a set may have too many marks at any time.)
+// The slices apart, as for `remark`.
+fn remark_all(c: &[u32], p: &mut [u32], s: usize)
+    requires { Store c.now p.old s }
+    ensures beside { Beside p.old p.new }
+    ensures store { Store c.now p.new s }
+{
+    // By number, as each turn changes the words that hold the pieces.
+    for k in 0..s {
+        remark(c, p, s, k);
+    }
 }
 
 // Makes an empty text in `s` slots. Every word of the slots, the order, the tree and the sets is known afterwards.
@@ -195,8 +226,8 @@ fn note(p: &mut [u32], i: usize, mark: u32)
     if mark == 0 {
         return;
     }
-    let low = p[LOW + i] | (1 << (mark % 32));
-    let high = p[HIGH + i] | (1 << (mark / 32 % 32));
+    let low = p[LOW + i] | two_bits(mark % 32, mark % 31);
+    let high = p[HIGH + i] | two_bits(mark / 32 % 32, mark % 29);
     p[LOW + i] = low;
     p[HIGH + i] = high;
 }
@@ -353,6 +384,7 @@ fn split(c: &mut [u32], p: &mut [u32], s: usize, at: Spot)
 }
 
 // Packs the cells together: fills each piece up to 768 cells from those behind it. The last piece is empty afterwards, unless there are too many cells.
+// A piece takes all marks of each piece that it takes cells from, so the sets are made anew at the end: else they would fill up, and no piece be passed over.
 fn repack(c: &mut [u32], p: &mut [u32], s: usize)
     requires { Store c.old p.old s }
     ensures same { SameText c.old p.old c.new p.new s }
@@ -365,6 +397,7 @@ fn repack(c: &mut [u32], p: &mut [u32], s: usize)
         i = settle(c, p, s, i, j);
     }
     recount(p, s);
+    remark_all(c, p, s);
 }
 
 // Packs the cells of piece `j` into the pieces from `i` on. Returns the last of them.

@@ -1,13 +1,23 @@
 -- How many cells have the mark of a change.
-use Rattle.std.proofs.Common.{◌≡◌, ℕ, suc, ◌+◌, ◌*◌, Bool, true, false, ◌||◌, eqb, cond, List, [], ◌∷◌, ◌++◌, sym, refl, ap, ◌∙◌, add_assoc, zero-add, arith}
+use Rattle.std.proofs.Common.{◌≡◌, ℕ, zero, suc, ◌+◌, ◌*◌, ◌^◌, ◌<◌, ◌≤◌, get_or, Bool, true, false, ◌||◌, eqb, cond, List, [], ◌∷◌, ◌++◌, sym, refl, ap, ◌∙◌, add_assoc, zero-add, arith}
 use Rattle.std.specs.List.{AllByRecursion, count_by}
 use Rattle.std.proofs.lemmas.List.Recursion.{is_count_by}
-use Rattle.std.proofs.lemmas.Bool.{ne_eqb}
-use Rattle.model.specs.Paper.{pick, Cell, touched}
-use Rattle.slots.specs.Cells.{all_cells, cells_at}
+use Rattle.std.proofs.lemmas.Bool.{eqb-false, ne_eqb}
+use Rattle.std.proofs.lemmas.List.{length-append, nil_from_length}
+use Rattle.model.specs.Paper.{pick, Cell, Change, touched}
+use Rattle.slots.specs.Cells.{all_cells, cell_at, cells_at}
 use Rattle.pieces.specs.Marks.{Lacks}
 use Rattle.pieces.specs.Store.{slot, used, number, piece, strung, pieces_from}
 use Rattle.pieces.proofs.Strung.{strung_more}
+use Rattle.sweep.specs.declared.Action.{Action}
+use Rattle.sweep.specs.declared.Action.TheVariants.{Strike, Accept, Reject, Style}
+use Rattle.sweep.specs.Sweep.{concerned, marked, swept}
+use Rattle.sweep.proofs.Laws.{swept_none}
+use Rattle.sweep.proofs.Sets.{accept_lacks, reject_lacks}
+
+-- whether a cell has the mark
+abbrev pub has_mark : ℕ → Cell → Bool
+has_mark m x = eqb x.put_in m || eqb x.struck m
 
 -- a cell with the mark counts 1
 abbrev pub mark_in : Cell → ℕ → Bool
@@ -32,18 +42,69 @@ touched_lacks c (x ∷ xs) all =
     rw (ne_eqb x.put_in (suc c) all.0.put_in, ne_eqb x.struck (suc c) all.0.struck) (ap (λ n. 0 + n) (touched_lacks c xs all.1))
 
 -- the cells of piece k
-pub touched_here : (w p xs : List ℕ) (k c at u r : ℕ) → at ≡ number p k 0 → u ≡ used p k → all_cells xs ≡ cells_at w at u → r ≡ touched (all_cells xs) c → r ≡ touched (piece w p k) c
+pub touched_here : (w p xs : List ℕ) (k c m at u r : ℕ) → m ≡ suc c → at ≡ number p k 0 → u ≡ used p k → all_cells xs ≡ cells_at w at u → r ≡ marked m (all_cells xs)
+    → r ≡ touched (piece w p k) c
 unfolding piece
-touched_here w p xs k c at u r e f g h =
+touched_here w p xs k c m at u r d e f g h =
     let z : at ≡ 1024 * slot p k = omega arith in
     let here : cells_at w at u ≡ piece w p k = rw (z, f) in
-    cc
+    let count = touched_count (piece w p k) c in
+    let r' : r ≡ marked (suc c) (piece w p k) = h ∙ ap (λ n. marked n (all_cells xs)) d ∙ ap (marked (suc c)) (g ∙ here) in
+    r' ∙ sym count
+
+-- a mark that fits no word
+pub touched_past : (w : List ℕ) (c : ℕ) → ((k : ℕ) → get_or w k 0 < 2 ^ 32) → 2 ^ 32 ≤ suc c → (a n : ℕ) → touched (cells_at w a n) c ≡ 0
+unfolding touched cells_at cell_at
+touched_past w c f l a zero = refl
+touched_past w c f l a (suc n) =
+    let p = f (4 * a + 2) in
+    let q = f (4 * a + 3) in
+    rw (ne_eqb (get_or w (4 * a + 2) 0) (suc c) (λ e. omega arith), ne_eqb (get_or w (4 * a + 3) 0) (suc c) (λ e. omega arith))
+    (ap (λ n. 0 + n) (touched_past w c f l (suc a) n))
+
+pub touched_past_here : (w p : List ℕ) (k c : ℕ) → ((k : ℕ) → get_or w k 0 < 2 ^ 32) → 2 ^ 32 ≤ suc c → touched (piece w p k) c ≡ 0
+unfolding piece
+touched_past_here w p k c f l = touched_past w c f l (1024 * slot p k) (used p k)
+
+-- none of two tests holds, and the others count nothing
+none_of : (a b : Bool) (n : ℕ) → pick (a || b) 1 0 + n ≡ 0 → (a ≡ false) × (b ≡ false) × (n ≡ 0)
+none_of true b n e = absurd (omega arith)
+none_of false true n e = absurd (omega arith)
+none_of false false n e = (refl, refl, omega arith)
+
+-- cells that have the mark nowhere
+pub lacks_none : (c : ℕ) (xs : List Cell) → touched xs c ≡ 0 → AllByRecursion (Lacks (suc c)) xs
+unfolding touched
+lacks_none c [] e = tt
+lacks_none c (x ∷ xs) e =
+    let h = none_of (eqb x.put_in (suc c)) (eqb x.struck (suc c)) (touched xs c) e in
+    (record { put_in = eqb-false x.put_in (suc c) h.0; struck = eqb-false x.struck (suc c) h.1 }, lacks_none c xs h.2)
+
+-- a sweep of cells none of which it is about
+pub unconcerned : (a : Action) (cs : List Change) (xs : List Cell) → concerned a xs ≡ 0 → swept a cs xs ≡ xs
+unconcerned (Strike a m) cs xs e = rw (nil_from_length xs e) (swept_none (Strike a m) cs)
+unconcerned (Accept c) cs xs e = accept_lacks c cs xs (lacks_none c xs e)
+unconcerned (Reject c) cs xs e = reject_lacks c cs xs (lacks_none c xs e)
+unconcerned (Style s) cs xs e = rw (nil_from_length xs e) (swept_none (Style s) cs)
+
+concerned_append : (a : Action) (xs ys : List Cell) → concerned a (xs ++ ys) ≡ concerned a xs + concerned a ys
+concerned_append (Strike a m) xs ys = length-append xs ys
+concerned_append (Accept c) xs ys = touched_append xs ys c
+concerned_append (Reject c) xs ys = touched_append xs ys c
+concerned_append (Style s) xs ys = length-append xs ys
+
+pub concerned_none : (a : Action) → 0 ≡ concerned a []
+unfolding touched
+concerned_none (Strike a m) = refl
+concerned_none (Accept c) = refl
+concerned_none (Reject c) = refl
+concerned_none (Style s) = refl
 
 -- one piece more
-pub touched_next : (w p : List ℕ) (k c n r : ℕ) → r ≡ touched (piece w p k) c → n ≡ touched (pieces_from w p 0 k) c → n + r ≡ touched (pieces_from w p 0 (k + 1)) c
-touched_next w p k c n r g h =
+pub concerned_next : (a : Action) (w p : List ℕ) (k n r : ℕ) → r ≡ concerned a (piece w p k) → n ≡ concerned a (pieces_from w p 0 k) → n + r ≡ concerned a (pieces_from w p 0 (k + 1))
+concerned_next a w p k n r g h =
     let i : k + 1 ≡ suc k = omega arith in
     let m = strung_more (piece w p) k in
-    let both = touched_append (strung (piece w p) 0 k) (piece w p k) c in
-    let t : touched (strung (piece w p) 0 (k + 1)) c ≡ touched (strung (piece w p) 0 k ++ piece w p k) c = cc in
+    let both = concerned_append a (strung (piece w p) 0 k) (piece w p k) in
+    let t : concerned a (strung (piece w p) 0 (k + 1)) ≡ concerned a (strung (piece w p) 0 k ++ piece w p k) = cc in
     omega arith

@@ -1,6 +1,6 @@
 -- What each action makes of a cell, and of a row of cells. Definitions only: nothing is assumed.
-use Rattle.std.specs.Prelude.{◌≡◌, ℕ, suc, ◌<◌, ◌≢◌, Bool, false, List, [], ◌∷◌, ◌++◌, take, drop, Some, None, Option, ◌==◌}
-use Rattle.model.specs.Paper.{pick, Cell, Change, author_of, strike, accept, reject, styled}
+use Rattle.std.specs.Prelude.{◌≡◌, ℕ, suc, ◌<◌, ◌≢◌, Bool, false, ◌||◌, List, [], ◌∷◌, ◌++◌, length, take, drop, Some, None, Option, ◌==◌, count_by}
+use Rattle.model.specs.Paper.{pick, Cell, Change, author_of, strike, accept, reject, styled, touched}
 use Rattle.model.specs.Values.{cell_of}
 use Rattle.model.specs.declared.Cell as code
 use Rattle.pieces.specs.Marks.{Has}
@@ -35,6 +35,17 @@ swept a cs (x ∷ xs) = fate a cs x ++ swept a cs xs
 -- xs with the n cells from place o on swept
 abbrev pub swept_run : Action → List Change → List Cell → ℕ → ℕ → List Cell
 swept_run a cs xs o n = replaced xs o n (swept a cs (take n (drop o xs)))
+
+-- how many of the cells have the mark m
+abbrev pub marked : ℕ → List Cell → ℕ
+marked m xs = count_by (λ x. x.put_in == m || x.struck == m) xs
+
+-- how many of the cells the action is about: those with the mark of the change that is decided, or all
+abbrev pub concerned : Action → List Cell → ℕ
+concerned (Strike a m) xs = length xs
+concerned (Accept c) xs = touched xs c
+concerned (Reject c) xs = touched xs c
+concerned (Style s) xs = length xs
 
 -- the set of slot i has the mark that the action writes, if it writes one
 abbrev pub Noted : Action → List ℕ → ℕ → Type 0

@@ -1,17 +1,15 @@
 // Strike, accept, reject and style over the cells of a text, said once: each is a sweep, which goes over cells in order, drops some and changes others.
 #![tactic(auto)]
 
-ghost use Rattle.std.specs.Prelude.{◌≡◌, suc, ◌+◌, ◌*◌, ◌/◌, ◌<◌, ◌≤◌, false, ◌||◌, List, ◌++◌, length, take, drop, ◌==◌, nat_eq};
+ghost use Rattle.std.specs.Prelude.{◌≡◌, ℕ, suc, ◌+◌, ◌*◌, ◌/◌, ◌<◌, ◌≤◌, ◌||◌, List, ◌++◌, length, take, drop, ◌==◌, nat_eq, slice_index};
 ghost use Rattle.changes.specs.Rows.{changes_in};
-ghost use Rattle.model.specs.Paper.{Change, author_of, pick, touched as touches};
+ghost use Rattle.model.specs.Paper.{author_of, pick, touched as touches};
 ghost use Rattle.model.specs.Values.{cell_of};
 ghost use Rattle.pieces.specs.Edits.{Changed, Resized};
-ghost use Rattle.pieces.specs.Marks.{Lacks};
 ghost use Rattle.pieces.specs.Store.{Order, Store, piece, slot, used};
 ghost use Rattle.pieces.specs.Text.{cells_in, cells_of_mut, Rewrites};
 ghost use Rattle.slots.specs.Cells.{Kept, all_cells, cell_at, cells_at};
-ghost use Rattle.sweep.specs.Sweep.{changed as afterwards, fate as fate_of, goes as is_gone, left_of, Noted, OneMeaning, swept, swept_run, SweptPiece};
-ghost use Rattle.std.specs.List.{AllByRecursion};
+ghost use Rattle.sweep.specs.Sweep.{changed as afterwards, concerned as concerned_in, fate as fate_of, goes as is_gone, left_of, marked, Noted, OneMeaning, swept, swept_run, SweptPiece};
 ghost use Rattle.tree.specs.Tree.{Sums};
 
 use changes::Row;
@@ -102,25 +100,56 @@ fn shrink(p: &mut [u32], s: usize, k: usize, n: usize, action: Action)
     }
 }
 
-// Whether piece `k` may have a cell with the mark of the change. If not, it has none.
-fn may_be_in(text: &Text, k: usize, change: u32) -> bool
-    requires { k < text.now.slots }
-    ensures { result ≡ false → AllByRecursion (Lacks (suc change)) (piece text.now.cells.now text.now.tables.now k) }
+/// Whether a cell has the mark of the change.
+pub fn is_touched(cell: Cell, change: u32) -> bool
+    ensures { result ≡ (nat_eq cell.put_in (suc change) || cell.struck == suc change) }
 {
-    match change.checked_add(1) {
-        Some(mark) => text.may_have(k, mark),
-        None => true,
-    }
+    is_mark(cell.put_in, change) || is_mark(cell.struck, change)
 }
 
-// Whether a sweep may change a cell of piece `k`. If not, it leaves the piece as it is.
-fn concerns(text: &Text, k: usize, action: Action) -> bool
+// A law, and no more: no word holds a greater number than a word can.
+fn words_fit(words: &[u32])
+    ensures { (k : ℕ) → slice_index words.now k < 4294967296 }
+{}
+
+// How many of the cells whose words `cells` has have the mark. (`is_touched` would take the mark from the change anew for each cell.)
+fn marked_cells(cells: &[u32], mark: u32) -> usize
+    ensures count { result ≡ marked mark (all_cells cells.now) }
+    ensures few { result ≤ length cells.now / 4 }
+{
+    (slots::Cells { words: cells })
+        .filter(|cell| cell.put_in == mark || cell.struck == mark)
+        .count()
+}
+
+// How many cells of piece `k` have the mark of the change.
+fn touched_piece(text: &Text, k: usize, change: u32) -> usize
     requires { k < text.now.slots }
-    ensures { result ≡ false → (cs : List Change) → swept action cs (piece text.now.cells.now text.now.tables.now k) ≡ piece text.now.cells.now text.now.tables.now k }
+    ensures count { result ≡ touches (piece text.now.cells.now text.now.tables.now k) change }
+    ensures few { result ≤ 1024 }
+{
+    // The greatest number is none of a change: its mark would not fit a word.
+    let Some(mark) = change.checked_add(1) else {
+        words_fit(text.cells);
+        return 0;
+    };
+    if !text.may_have(k, mark) {
+        return 0;
+    }
+    // The words of the piece: a function would be a name for this one line.
+    let cells = slots::part(text.cells, text.number_of(k, 0), text.used(k));
+    marked_cells(cells, mark)
+}
+
+// How many cells of piece `k` a sweep is about: those with the mark of the change that is decided, or all. If there are none, it leaves the piece as it is.
+fn concerned(text: &Text, k: usize, action: Action) -> usize
+    requires { k < text.now.slots }
+    ensures count { result ≡ concerned_in action (piece text.now.cells.now text.now.tables.now k) }
+    ensures few { result ≤ 1024 }
 {
     match action {
-        Action::Accept { change } | Action::Reject { change } => may_be_in(text, k, change),
-        Action::Strike { .. } | Action::Style { .. } => true,
+        Action::Accept { change } | Action::Reject { change } => touched_piece(text, k, change),
+        Action::Strike { .. } | Action::Style { .. } => text.used(k),
     }
 }
 
@@ -219,20 +248,24 @@ impl<'a> Sweep<'a> {
         left
     }
 
-    // Sweeps all cells of piece `k`, and makes its set of marks anew: it then has no mark that none of its cells has.
+    // Sweeps all cells of piece `k`, and makes its set of marks anew: it then has no mark that none of its cells has. A piece without a cell that the sweep
+    // is about is only read. Returns how many such cells there were.
     // The slices apart, as `remark` makes the set right only after the piece.
-    fn sweep_whole(&self, c: &mut [u32], p: &mut [u32], s: usize, k: usize)
+    fn sweep_whole(&self, c: &mut [u32], p: &mut [u32], s: usize, k: usize) -> usize
         requires store { Store c.old p.old s }
         requires here { k < s }
-        ensures { SweptPiece c.old p.old c.new p.new s k (swept self.now.action (changes_in self.now.row) (piece c.old p.old k)) }
+        ensures swept { SweptPiece c.old p.old c.new p.new s k (swept self.now.action (changes_in self.now.row) (piece c.old p.old k)) }
+        ensures count { result ≡ concerned_in self.now.action (piece c.old p.old k) }
+        ensures few { result ≤ 1024 }
     {
         let text = Text {
             cells: c,
             tables: p,
             slots: s,
         };
-        if !concerns(&text, k, self.action) {
-            return;
+        let count = concerned(&text, k, self.action);
+        if count == 0 {
+            return 0;
         }
         // Written out, as a spot is just these two numbers.
         let start = Spot {
@@ -242,6 +275,7 @@ impl<'a> Sweep<'a> {
         let has = text.used(k);
         self.sweep_piece(c, p, s, start, has);
         pieces::remark(c, p, s, k);
+        count
     }
 }
 
@@ -265,46 +299,18 @@ pub fn sweep_run(text: &mut TextMut, row: &Row, place: usize, n: usize, action: 
     }
 }
 
-/// Sweeps all cells of the text.
-pub fn sweep_all(text: &mut TextMut, row: &Row, action: Action)
-    ensures { Rewrites text.old text.new (swept action (changes_in row.now) (cells_of_mut text.old)) }
+/// Sweeps all cells of the text. Returns how many of them the action was about: those that had the mark of the change that is decided, or all.
+pub fn sweep_all(text: &mut TextMut, row: &Row, action: Action) -> u32
+    ensures swept { Rewrites text.old text.new (swept action (changes_in row.now) (cells_of_mut text.old)) }
+    ensures count { result ≡ concerned_in action (cells_of_mut text.old) }
 {
     let sweep = Sweep { row: *row, action };
+    let mut count = 0;
     // An index, as the order of the slots is lent memory.
     for k in 0..text.slots {
-        sweep.sweep_whole(text.cells, text.tables, text.slots, k);
+        count += sweep.sweep_whole(text.cells, text.tables, text.slots, k);
     }
-}
-
-/// Whether a cell has the mark of the change.
-pub fn is_touched(cell: Cell, change: u32) -> bool
-    ensures { result ≡ (nat_eq cell.put_in (suc change) || cell.struck == suc change) }
-{
-    is_mark(cell.put_in, change) || is_mark(cell.struck, change)
-}
-
-// How many of the cells whose words `cells` has have the mark of the change.
-fn touched_cells(cells: &[u32], change: u32) -> usize
-    ensures count { result ≡ touches (all_cells cells.now) change }
-    ensures few { result ≤ length cells.now / 4 }
-{
-    (slots::Cells { words: cells })
-        .filter(|cell| is_touched(*cell, change))
-        .count()
-}
-
-// How many cells of piece `k` have the mark of the change.
-fn touched_piece(text: &Text, k: usize, change: u32) -> usize
-    requires { k < text.now.slots }
-    ensures count { result ≡ touches (piece text.now.cells.now text.now.tables.now k) change }
-    ensures few { result ≤ 1024 }
-{
-    if !may_be_in(text, k, change) {
-        return 0;
-    }
-    // The words of the piece: a function would be a name for this one line.
-    let cells = slots::part(text.cells, text.number_of(k, 0), text.used(k));
-    touched_cells(cells, change)
+    count as u32
 }
 
 /// How many cells have the mark of the change.

@@ -118,8 +118,8 @@ module _ (m s : ℕ) (most : s ≤ 2048) where
   all_marks : 0 < m → (i n : ℕ) → i < 2048 → Has (tables_for m s) i n
   all_marks some i n h =
       record {
-        low = rw (set_word (6144 + i) (omega arith) (omega arith), lt-ltb 0 m some) (ones_bit 32 (n % 32) (omega arith));
-        high = rw (set_word (8192 + i) (omega arith) (omega arith), lt-ltb 0 m some) (ones_bit 32 (n / 32 % 32) (omega arith));
+        low = rw (set_word (6144 + i) (omega arith) (omega arith), lt-ltb 0 m some) (ones_bit 32 (n % 32) (omega arith), ones_bit 32 (n % 31) (omega arith));
+        high = rw (set_word (8192 + i) (omega arith) (omega arith), lt-ltb 0 m some) (ones_bit 32 (n / 32 % 32) (omega arith), ones_bit 32 (n % 29) (omega arith));
       }
 
   node_word : (i : ℕ) → i < 4096 → get_or (drop 2048 (tables_for m s)) i 0 ≡ count m 11 i

@@ -5,4 +5,4 @@ pub returns-then-mark-eq0 : goal.returns-then-mark-eq0
 returns-then-mark-eq0 c = noted_none c.args.p.now c.args.i c.args.mark c.if-mark-eq0.true
 
 pub returns : goal.returns
-returns c = noted_is c.args.p.now c.args.i c.args.mark c.if-mark-eq0.false
+returns c = noted_is c.args.p.now c.args.i c.args.mark c.two_bits.result c.two_bits-2.result c.if-mark-eq0.false c.two_bits.ensures c.two_bits-2.ensures

@@ -1,13 +1,25 @@
-use Rattle.std.proofs.Common.{sym}
+use Rattle.std.proofs.Common.{◌≡◌, suc, sym, arith}
 use Rattle.pieces.specs.Store.{piece}
-use Rattle.sweep.proofs.Marks.{touched_here, touched_lacks}
+use Rattle.sweep.proofs.Marks.{touched_here, touched_lacks, touched_past_here}
 use Rattle.sweep.proofs.touched_piece.Goals as goal
 
-pub returns-then-not-may_be_in-clause-count : goal.returns-then-not-may_be_in-clause-count
-returns-then-not-may_be_in-clause-count c =
-    sym (touched_lacks c.args.change (piece c.args.text.now.cells.now c.args.text.now.tables.now c.args.k) (c.may_be_in.ensures c.if-not-may_be_in.true))
+pub returns-in_default-clause-count : goal.returns-in_default-clause-count
+returns-in_default-clause-count c =
+    let text = c.args.text.now in
+    let past = c.in_default.ensures in
+    sym (touched_past_here text.cells.now text.tables.now c.args.k c.args.change c.words_fit.ensures (omega arith))
+
+pub returns-then-not-may_have-clause-count : goal.returns-then-not-may_have-clause-count
+returns-then-not-may_have-clause-count c =
+    let text = c.args.text.now in
+    let is = c.in-Some.ensures.1 in
+    let m : c.in-Some.mark ≡ suc c.args.change = omega arith in
+    sym (touched_lacks c.args.change (piece text.cells.now text.tables.now c.args.k) (rw m at (c.may_have.ensures.lacks c.if-not-may_have.true)))
 
 pub returns-clause-count : goal.returns-clause-count
 returns-clause-count c =
-    touched_here c.args.text.now.cells.now c.args.text.now.tables.now c.part-cells.result.now c.args.k c.args.change c.number_of.result c.used.result c.touched_cells.result
-    c.number_of.ensures c.used.ensures c.part-cells.ensures.cells c.touched_cells.ensures.count
+    let text = c.args.text.now in
+    let is = c.in-Some.ensures.1 in
+    let m : c.in-Some.mark ≡ suc c.args.change = omega arith in
+    touched_here text.cells.now text.tables.now c.part-cells.result.now c.args.k c.args.change c.in-Some.mark c.number_of.result c.used.result c.marked_cells.result m
+    c.number_of.ensures c.used.ensures c.part-cells.ensures.cells c.marked_cells.ensures.count

@@ -18,6 +18,6 @@ returns c =
     let back : c.split_at_mut-head.result.1.now ≡ tables ps = rw from at c.split_at_mut-head.ensures.back in
     let slots : c.slots_in-slots.result ≡ slots_of ps = c.slots_in-slots.ensures.is in
     let row = row_before ps c.split_at_mut-head.result.0.now front c.requires.changes_fit in
-    let edited : Edited cs (tables ps) c.sweep_all.new.text.cells.now c.sweep_all.new.text.tables.now (slots_of ps) xs = rw (back, slots, c.row_in-row.ensures.words, c.row_in-row.ensures.len, row) at c.sweep_all.ensures.edited in
+    let edited : Edited cs (tables ps) c.sweep_all.new.text.cells.now c.sweep_all.new.text.tables.now (slots_of ps) xs = rw (back, slots, c.row_in-row.ensures.words, c.row_in-row.ensures.len, row) at c.sweep_all.ensures.swept.edited in
     let short = length_swept c.args.action p.changes p.cells in
     restored c.requires edited (omega (arith, c.requires.cells_fit)) front (search rules) (search rules)

@@ -1,12 +1,12 @@
 -- The cells that pass the test are counted.
-use Rattle.std.proofs.Common.{rules, ◌/◌, length, sym, ap, ◌∙◌, inl, arith}
+use Rattle.std.proofs.Common.{rules, ◌/◌, length, ap, ◌∙◌, inl, arith}
 use Rattle.std.proofs.lemmas.Iterator.Consumers.{count_from_yields_List, YieldsList-from_filter, YieldsList-from_first}
 use Rattle.std.proofs.lemmas.List.Sums.{length-filter}
 use Rattle.model.specs.Values.{cell_of}
 use Rattle.slots.specs.Cells.{all_cells}
 use Rattle.slots.proofs.Words.{length_cells}
-use Rattle.sweep.proofs.Marks.{mark_in, touched_count}
-use Rattle.sweep.proofs.touched_cells.Goals as goal
+use Rattle.sweep.proofs.Marks.{has_mark}
+use Rattle.sweep.proofs.marked_cells.Goals as goal
 
 pub count-requires-clause-fits : goal.count-requires-clause-fits
 count-requires-clause-fits c =
@@ -17,10 +17,10 @@ count-requires-clause-fits c =
 
 pub returns-clause-count : goal.returns-clause-count
 returns-clause-count c =
-    let change = c.args.change in
+    let mark = c.args.mark in
     count_from_yields_List c.filter.result _ c.count.ensures.ran
-    (YieldsList-from_filter _ (λ x. mark_in x change) (YieldsList-from_first cell_of (λ s. all_cells s.words.now) (all_cells c.args.cells.now) (ap (λ s. all_cells s.words.now) c.filter.ensures.source)) c.filter.ensures.closure (λ x b q k. search rules))
-    ∙ length-filter (λ x. mark_in x change) (all_cells c.args.cells.now) ∙ sym (touched_count (all_cells c.args.cells.now) change)
+    (YieldsList-from_filter _ (has_mark mark) (YieldsList-from_first cell_of (λ s. all_cells s.words.now) (all_cells c.args.cells.now) (ap (λ s. all_cells s.words.now) c.filter.ensures.source)) c.filter.ensures.closure (λ x b q k. search rules))
+    ∙ length-filter (has_mark mark) (all_cells c.args.cells.now)
 
 pub returns-clause-few : goal.returns-clause-few
 returns-clause-few c =
