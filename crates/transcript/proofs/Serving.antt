@@ -141,13 +141,13 @@ refusal_bytes e a bytes was out out' long r same is size short tells =
     tells (refusal_told e) (refusal_shows (refusal_number e) (refusal_place e)) (is ∙ (ap (λ (xs : List ℕ). answer_bytes a ++ xs) none ∙ (append-nil (answer_bytes a) ∙ ap answer_bytes same)))
 
 -- memory that is enough for any desk that there is room for
-pub room_enough : (n c u : ℕ) (cs ps us : List ℕ) → room_for n c u ≡ true → length cs ≡ 28672 → length ps ≡ 10512 → (good_limits n c u && enough n c u cs ps us) ≡ true
-room_enough n c u cs ps us h lc lp =
+pub room_enough : (n c u : ℕ) (cs ps us : List ℕ) → room_for n c u ≡ true → length cs ≡ 28672 → length ps ≡ 10512 → length us ≡ 32784 → (good_limits n c u && enough n c u cs ps us) ≡ true
+room_enough n c u cs ps us h lc lp lu =
     let p = room_parts n c u h in
     let a : 4096 * (n / 576 + 4) ≤ length cs = omega (arith, p.0) in
     let b : 10256 + 2 * c ≤ length ps = omega (arith, p.1) in
-    let z : undo_words u ≤ length us = omega arith in
-    rw (room_good n c u h, le-leb (cells_words n) (length cs) a, le-leb (pieces_words c) (length ps) b, le-leb (undo_words u) (length us) z) refl
+    let d : 16 + 16 * u ≤ length us = omega (arith, p.2) in
+    rw (room_good n c u h, le-leb (cells_words n) (length cs) a, le-leb (pieces_words c) (length ps) b, le-leb (undo_words u) (length us) d) refl
 
 -- a desk for which memory stands, said of lists that are the same
 pub stands_there : {cs ps us ds qs vs : List ℕ} (d : Desk) → cs ≡ ds → ps ≡ qs → us ≡ vs → Stands cs ps us d → Stands ds qs vs d

@@ -1,7 +1,7 @@
 // An open desk in memory of its own.
 ghost use Rattle.std.specs.Prelude.{◌≡◌, ◌≤◌, true, take, IfOk, vec_len};
-ghost use Rattle.std.proofs.Props.{props};
 ghost use Rattle.session.specs.Memory.{Sound};
+ghost use Rattle.transcript.specs.OneSound.{sound_prop};
 ghost use Rattle.transcript.specs.Transcript.{room_for};
 
 use crate::{refuse, tell};
@@ -14,7 +14,7 @@ const CELLS_WORDS: usize = 28672;
 
 const PIECES_WORDS: usize = 10512;
 
-const UNDO_WORDS: usize = 1;
+const UNDO_WORDS: usize = 32784;
 
 // A desk and the memory that it lends. It has no `Debug`, which would print all of that. The memory is on the heap, as it is too much for a stack:
 // so there can be want of it where a desk is opened.
@@ -25,7 +25,7 @@ pub(crate) struct OpenDesk {
     undo: Vec<u32>,
     // Room for the longest answer.
     answer: Vec<u8>,
-    ghost sound: { Sound cells.items pieces.items undo.items } by { Prim.hlevel props },
+    ghost sound: { Sound cells.items pieces.items undo.items } by { sound_prop cells.items pieces.items undo.items },
     ghost room: { 262405 ≤ vec_len answer },
 }
 

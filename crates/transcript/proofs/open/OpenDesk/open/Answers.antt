@@ -9,7 +9,8 @@ pub unreachable-requires : goal.unreachable-requires
 unreachable-requires c =
     let l = c.args.limits in
     let enough = room_enough l.cells l.changes l.undos c.as_mut_slice.result.now c.as_mut_slice-2.result.now c.as_mut_slice-3.result.now c.requires
-    (omega (arith, c.as_mut_slice.ensures.len, c.in_ok-cells.ensures.len)) (omega (arith, c.as_mut_slice-2.ensures.len, c.in_ok-pieces.ensures.len)) in
+    (omega (arith, c.as_mut_slice.ensures.len, c.in_ok-cells.ensures.len)) (omega (arith, c.as_mut_slice-2.ensures.len, c.in_ok-pieces.ensures.len))
+    (omega (arith, c.as_mut_slice-3.ensures.len, c.in_ok-undo.ensures.len)) in
     let z : ◌≡◌ {A = ℕ} 0 1 = cc (enough, c.in-Err.ensures.0) in omega arith
 
 pub returns : goal.returns
@@ -21,3 +22,8 @@ returns c =
       ap limits_of pieces ∙ opened_limits l.cells l.changes l.undos c.open.new.pieces _ c.in-Ok.ensures.1.pieces,
       stands_there new_desk (sym cells) (sym pieces) (sym undo) c.in-Ok.ensures.1.stands,
     )
+
+pub invariant_of-result-clause-sound : goal.invariant_of-result-clause-sound
+invariant_of-result-clause-sound c =
+    (stands_there new_desk (sym (with_items_is c.in_ok-cells.cells c.open.new.cells (omega arith))) (sym (with_items_is c.in_ok-pieces.pieces c.open.new.pieces (omega arith)))
+    (sym (with_items_is c.in_ok-undo.undo c.open.new.undo (omega arith))) c.in-Ok.ensures.1.stands).sound
