@@ -1,5 +1,7 @@
 //! The paper as a plain `Vec` of 16-byte cells, to be measured beside the desk: each call does the same edit in place, goes through all cells
 //! to count, and finds rows anew from the start. It writes the same answers, but for how many calls there were to undo or redo.
+//! Where calls are to be undone it keeps a copy of all cells and changes at each call that writes, of the last STEPS; undo and redo then only
+//! exchange the paper for a copy. In all other cases it keeps nothing.
 
 #[derive(Clone, Copy)]
 #[repr(C)]
@@ -54,13 +56,21 @@ impl Op {
     }
 }
 
+struct Paper {
+    cells: Vec<Cell>,
+    changes: Vec<(u32, u32)>,
+}
+
 pub struct List {
     cells: Vec<Cell>,
     changes: Vec<(u32, u32)>,
-    /// Puts that can be undone: place and count. Of the five calls only puts are undone here.
-    past: Vec<(usize, usize)>,
-    future: Vec<(usize, Vec<Cell>, (u32, u32))>,
+    keeps: bool,
+    past: Vec<Paper>,
+    future: Vec<Paper>,
 }
+
+/// How many calls can be undone.
+const STEPS: usize = 60;
 
 fn seen(cell: &Cell, way: u32) -> bool {
     match way {
@@ -88,7 +98,38 @@ fn row(width: usize, cells: &[Cell]) -> (usize, usize) {
 
 impl List {
     pub fn new(capacity: usize) -> List {
-        List { cells: Vec::with_capacity(capacity), changes: Vec::with_capacity(65_536), past: Vec::new(), future: Vec::new() }
+        List { cells: Vec::with_capacity(capacity), changes: Vec::with_capacity(65_536), keeps: false, past: Vec::new(), future: Vec::new() }
+    }
+
+    /// Whether papers are kept from now on. Those that were are forgotten when that ends.
+    pub fn keep(&mut self, keeps: bool, capacity: usize) {
+        if self.keeps && !keeps {
+            self.past.clear();
+            self.future.clear();
+            self.cells.reserve_exact(capacity - self.cells.len()); // a copy has room for no more than it holds
+            self.changes.reserve_exact(65_536 - self.changes.len());
+        }
+        self.keeps = keeps;
+    }
+
+    fn keep_paper(&mut self) {
+        if self.keeps {
+            if self.past.len() == STEPS {
+                self.past.remove(0);
+            }
+            self.past.push(Paper { cells: self.cells.clone(), changes: self.changes.clone() });
+            self.future.clear();
+        }
+    }
+
+    fn exchange(&mut self, paper: Paper) -> Paper {
+        Paper { cells: std::mem::replace(&mut self.cells, paper.cells), changes: std::mem::replace(&mut self.changes, paper.changes) }
+    }
+
+    /// How many cells from a place on there are up to the one with which so many are not struck out.
+    pub fn reach(&self, place: u32, unstruck: usize) -> u32 {
+        let free = self.cells[place as usize..].iter().enumerate().filter(|(_, c)| c.struck == 0).nth(unstruck - 1);
+        free.expect("so many cells that are not struck out").0 as u32 + 1
     }
 
     pub fn len(&self) -> u32 {
@@ -116,14 +157,15 @@ impl List {
 
     /// Does it, and writes the answer at the end of `out`.
     pub fn run(&mut self, op: &Op, out: &mut Vec<u8>) {
+        if matches!(op, Op::Put { .. } | Op::Strike { .. } | Op::Accept { .. } | Op::Reject { .. } | Op::Style { .. }) {
+            self.keep_paper();
+        }
         match op {
             Op::Put { author, place, letters } => {
                 let place = *place as usize;
                 self.changes.push((*author, 0));
                 let put_in = self.changes.len() as u32;
                 self.cells.splice(place..place, letters.iter().map(|l| Cell { letter: *l as u32, style: 0, put_in, struck: 0 }));
-                self.past.push((place, letters.len()));
-                self.future.clear();
                 List::number(out, put_in - 1);
             }
             Op::Strike { author, place, count } => {
@@ -155,16 +197,15 @@ impl List {
                 List::number(out, *count);
             }
             Op::Undo => {
-                let (place, count) = self.past.pop().expect("a put to undo");
-                let cells = self.cells.drain(place..place + count).collect();
-                self.future.push((place, cells, self.changes.pop().expect("its change")));
+                let paper = self.past.pop().expect("a call to undo");
+                let now = self.exchange(paper);
+                self.future.push(now);
                 List::number(out, 0);
             }
             Op::Redo => {
-                let (place, cells, change) = self.future.pop().expect("a put to redo");
-                self.past.push((place, cells.len()));
-                self.changes.push(change);
-                self.cells.splice(place..place, cells);
+                let paper = self.future.pop().expect("a call to redo");
+                let now = self.exchange(paper);
+                self.past.push(now);
                 List::number(out, 0);
             }
             Op::Show { way, width, first } => {

@@ -1,6 +1,7 @@
 //! Drives the desk through its C interface beside the plain desk, with random calls, and compares every answer.
 //! usage: random STAGE DESKS CALLS SEED [DESK]
-//! STAGE is thin, changes, undo or whole. With DESK only that desk of the run is done, and its calls are printed.
+//! STAGE is thin, changes, undo or whole. Each desk gets CALLS random calls, and besides these some that fill its paper first and some that look
+//! through it in the end. With DESK only that desk of the run is done, and its calls are printed.
 //! Besides the answers it looks at what must not change: every word of memory in a call that is refused, words after the memory that was
 //! asked for, words and bytes after what was lent, and the bytes after an answer.
 mod calls;
@@ -117,16 +118,57 @@ impl Memory {
     }
 }
 
-/// How often each call was done, and each refusal came.
+/// How often each call was done, and each refusal came; and how often what is easily done wrong.
 #[derive(Default)]
 struct Tally {
     done: [u64; 12],
     refused: [u64; 10],
+    random: u64,
+    besides: u64,
+    /// Writes after which something older could not be undone any more, or nothing at all; writes after which nothing could be redone any more.
+    forgot: u64,
+    forgot_all: u64,
+    not_redone: u64,
+    most_undone: usize,
+    found: u64,
+}
+
+impl Tally {
+    /// `before`: how many could be undone and redone.
+    fn note(&mut self, call: u8, answer: &[u8], before: (usize, usize), after: (usize, usize)) {
+        if answer[0] == 0 {
+            self.refused[answer[1] as usize] += 1;
+            return;
+        }
+        self.done[call as usize] += 1;
+        if call < 5 {
+            self.forgot += (before.0 > 0 && after.0 <= before.0) as u64;
+            self.forgot_all += (before.0 > 0 && after.0 == 0) as u64;
+            self.not_redone += (before.1 > 0) as u64;
+        }
+        self.most_undone = self.most_undone.max(after.1);
+        self.found += (call == 8 && answer[1..] != [0; 4]) as u64;
+    }
+
+    fn print(&self, stage: Stage) {
+        let list = |counts: &[u64]| counts.iter().enumerate().filter(|c| *c.1 > 0).map(|(n, c)| format!("{n}: {c}")).collect::<Vec<_>>().join(", ");
+        println!("calls done, by first byte: {}", list(&self.done));
+        println!("calls refused, by number: {}", list(&self.refused));
+        if stage.can(5) {
+            println!("writes that forgot older ones: {}, all: {}, what could be redone: {}", self.forgot, self.forgot_all, self.not_redone);
+            println!("most that could be redone: {}", self.most_undone);
+        }
+        if stage.can(8) {
+            println!("found: {} of {}", self.found, self.done[8]);
+        }
+    }
 }
 
 /// The desk under test beside the plain one.
 struct Pair {
     memory: Memory,
+    /// Memory as it was before a call that is refused.
+    before: Memory,
     spare: [Vec<u32>; 3],
     plain: Desk,
     answer: Vec<u8>,
@@ -183,7 +225,7 @@ impl Pair {
         let long = ANSWER_BYTES + if rng.percent(50) { 0 } else { rng.below(40) as usize };
         let pattern: Vec<u8> = (0..long + GUARD).map(|_| rng.next() as u8).collect();
         let spare = memory.after(memory.asked);
-        Ok(Pair { memory, spare, plain, answer: pattern.clone(), pattern })
+        Ok(Pair { before: memory.clone(), memory, spare, plain, answer: pattern.clone(), pattern })
     }
 
     fn lent_answer(&self) -> usize {
@@ -224,14 +266,14 @@ impl Pair {
 
     /// One call at both.
     fn call(&mut self, call: &[u8], tally: &mut Tally) -> Result<(), Wrong> {
+        let kept = |plain: &Desk| (plain.undos(), plain.redos());
+        let before = kept(&self.plain);
         let right = self.plain.call(call);
+        tally.note(call.first().copied().unwrap_or(0), &right, before, kept(&self.plain));
         let is_refused = right[0] == 0;
         if is_refused {
-            tally.refused[right[1] as usize] += 1;
-        } else {
-            tally.done[call[0] as usize] += 1;
+            self.before.words.clone_from(&self.memory.words);
         }
-        let before = if is_refused { Some(self.memory.clone()) } else { None };
         let end = self.lent_answer();
         let told = self.memory.call_with(self.memory.lent, call, &mut self.answer[..end]);
         if told != right.len() as i64 || self.answer[..right.len()] != right[..] {
@@ -243,10 +285,10 @@ impl Pair {
             return Err(format!("byte {at:?} of the answer's array changed; the answer has {}", right.len()));
         }
         self.answer[..right.len()].copy_from_slice(&self.pattern[..right.len()]);
-        match before {
-            Some(before) => self.memory.same_all(&before, "by a call that was refused"),
-            None => self.memory.same_after(&self.spare, self.memory.asked),
+        if is_refused {
+            return self.memory.same_all(&self.before, "by a call that was refused");
         }
+        self.memory.same_after(&self.spare, self.memory.asked)
     }
 }
 
@@ -282,50 +324,70 @@ struct Plan {
     put_up_to: u64,
     fill: u64,
     fill_by: u64,
-    calls: u64,
 }
 
 fn plan(rng: &mut Rng, number: u64, calls: u64) -> Plan {
     if number % 40 == 20 {
-        // as large as can be; with many papers to bring back the plain desk gets fewer letters, since it keeps them whole
-        let (undos, fill) = if rng.percent(50) { (rng.pick(&[0, 500, 1000]), rng.pick(&[100, 300, 980])) } else { (MOST_UNDOS, 30) };
-        let limits = Limits { cells: MOST_CELLS, changes: MOST_CHANGES, undos };
-        return Plan { limits, put_up_to: 1024, fill, fill_by: 1024, calls: calls.min(40) };
+        // as large as can be
+        let limits = Limits { cells: MOST_CELLS, changes: MOST_CHANGES, undos: rng.pick(&[0, 500, 1000, 100_000, MOST_UNDOS, MOST_UNDOS]) };
+        return Plan { limits, put_up_to: 1024, fill: rng.pick(&[30, 300, 970]), fill_by: 1024 };
     }
     let changes = match rng.below(20) {
-        0 => 0,
-        1 => 1,
-        2..=4 => 10,
-        5 => MOST_CHANGES,
-        _ => rng.between(20, 2000) as u32,
+        0 => rng.pick(&[0, 1, 2]),
+        1 | 2 => 10,
+        3..=5 => MOST_CHANGES,
+        _ => rng.between(20, calls.clamp(2000, MOST_CHANGES as u64)) as u32,
     };
-    let few = [0, 1, 2, 5, 10, 30, 100];
+    let few = [0, 1, 2, 3, 5, 10, 20, 21, 30, 50, 100];
     match rng.below(20) {
         0 | 1 => {
             let limits = Limits { cells: rng.pick(&[0, 1, 2]), changes, undos: rng.pick(&few) };
-            Plan { limits, put_up_to: 3, fill: 0, fill_by: 1, calls: calls.min(80) }
+            Plan { limits, put_up_to: 3, fill: 0, fill_by: 1 }
         }
         2..=9 => {
             let limits = Limits { cells: rng.pick(&[60, 60, 20, 200, 300]), changes, undos: rng.pick(&few) };
-            Plan { limits, put_up_to: rng.pick(&[1, 2, 5, 20]), fill: 0, fill_by: 1, calls }
+            Plan { limits, put_up_to: rng.pick(&[1, 2, 5, 20]), fill: 0, fill_by: 1 }
         }
         10..=14 => {
-            let undos = if rng.percent(3) { MOST_UNDOS } else { rng.pick(&[0, 30, 300, 2048, 5000]) };
+            let undos = if rng.percent(5) { MOST_UNDOS } else { rng.pick(&[0, 20, 30, 300, 2048, 5000]) };
             let limits = Limits { cells: rng.pick(&[2048, 2048, 1024, 1025, 4000]), changes, undos };
-            Plan { limits, put_up_to: rng.pick(&[5, 10, 40, 200, 1024]), fill: 0, fill_by: 1, calls }
+            Plan { limits, put_up_to: rng.pick(&[5, 10, 40, 200, 1024]), fill: 0, fill_by: 1 }
         }
         _ => {
             // many pieces, filled to the brim; in a long run half of them by many small puts
             let slowly = calls >= 1000 && rng.percent(50);
             let cells = if slowly { 10 * calls.min(MOST_CELLS as u64 / 10) } else { rng.between(3_000, 40_000) };
             let changes = if slowly { MOST_CHANGES } else { changes.max(300) };
-            let limits = Limits { cells: cells as u32, changes, undos: rng.pick(&[0, 300, 3000, 20_000]) };
+            let limits = Limits { cells: cells as u32, changes, undos: rng.pick(&[0, 20, 300, 3000, 20_000, 200_000]) };
             let fill_by = rng.pick(&[1024, 1023, 700, 513, 100]);
             let fill = if slowly { 0 } else { rng.below(cells / fill_by + 2) };
             let put_up_to = if slowly { rng.pick(&[2, 10, 30]) } else { rng.pick(&[30, 600, 1024]) };
-            Plan { limits, put_up_to, fill, fill_by, calls }
+            Plan { limits, put_up_to, fill, fill_by }
         }
     }
+}
+
+/// Calls that look through the whole paper, or through its beginning if it is a large one.
+fn all_there_is(rng: &mut Rng, desk: &Desk) -> Vec<Call> {
+    let large = desk.now.cells.len() > 100_000;
+    let mut out = Vec::new();
+    for way in 0..3 {
+        let width = rng.pick(&[1, 3, 10, 64, 256]);
+        let there = plain::rows(width as usize, &desk.now.view(way)).len();
+        for first in (0..if large { there.min(200) } else { there }).step_by(64) {
+            out.push(Call::Show { way, width, first: first as u32, count: (there - first).min(64) as u32 });
+        }
+        out.push(Call::Count { way });
+    }
+    if desk.stage.can(10) {
+        out.extend((0..desk.now.changes.len().min(200)).map(|change| Call::Change { change: change as u32 }));
+    }
+    if desk.stage.can(11) {
+        let there = desk.now.file().len();
+        let from = (0..if large { there.min(20_000) } else { there }).step_by(1024);
+        out.extend(from.map(|from| Call::Save { from: from as u32, count: (there - from).min(1024) as u32 }));
+    }
+    out
 }
 
 struct Failure {
@@ -336,7 +398,7 @@ struct Failure {
 }
 
 /// One desk, from its opening on.
-fn desk(stage: Stage, seed: u64, number: u64, calls: u64, loud: bool, tally: &mut Tally) -> Result<u64, Failure> {
+fn desk(stage: Stage, seed: u64, number: u64, calls: u64, loud: bool, tally: &mut Tally) -> Result<(), Failure> {
     let mut rng = Rng::new(seed.wrapping_mul(1_000_003).wrapping_add(number));
     let plan = plan(&mut rng, number, calls);
     let limits = plan.limits;
@@ -368,9 +430,11 @@ fn desk(stage: Stage, seed: u64, number: u64, calls: u64, loud: bool, tally: &mu
         step(&mut pair, &Call::Put { author: rng.below(4) as u32, place: place as u32, style: 0, letters }.bytes())?;
     }
     let mut habits = Habits::new(&mut rng, plan.put_up_to);
-    for i in 0..plan.calls {
-        if i % 100 == 99 {
+    let mut renewed = 0;
+    for i in 0..calls {
+        if i >= renewed + 100 && habits.idle() {
             habits = Habits::new(&mut rng, plan.put_up_to);
+            renewed = i;
         }
         let bytes = habits.bytes(&mut rng, &pair.plain);
         let reached = step(&mut pair, &bytes)?;
@@ -379,41 +443,24 @@ fn desk(stage: Stage, seed: u64, number: u64, calls: u64, loud: bool, tally: &mu
         }
     }
 
-    // in the end all that there is, as far as it is not too much
-    let large = pair.plain.now.cells.len() > 100_000;
-    for way in 0..3 {
-        let width = rng.pick(&[1, 3, 10, 64, 256]);
-        let there = plain::rows(width as usize, &pair.plain.now.view(way)).len();
-        let rows = if large { 0..there.min(200) } else { 0..there };
-        for first in rows.step_by(64) {
-            let count = (there - first).min(64) as u32;
-            step(&mut pair, &Call::Show { way, width, first: first as u32, count }.bytes())?;
-        }
-        step(&mut pair, &Call::Count { way }.bytes())?;
+    // in the end all that there is; and again after several undos, and after their redos
+    let undos = if stage.can(5) { pair.plain.undos().min(60) } else { 0 };
+    let rounds = if undos > 0 { vec![(undos, Call::Undo), (undos, Call::Redo)] } else { Vec::new() };
+    for call in all_there_is(&mut rng, &pair.plain) {
+        step(&mut pair, &call.bytes())?;
     }
-    if stage.can(10) {
-        for change in 0..pair.plain.now.changes.len().min(200) {
-            step(&mut pair, &Call::Change { change: change as u32 }.bytes())?;
+    for (times, call) in rounds {
+        for _ in 0..times {
+            step(&mut pair, &call.bytes())?;
+            step(&mut pair, &Call::Count { way: rng.below(3) as u32 }.bytes())?;
+        }
+        for call in all_there_is(&mut rng, &pair.plain) {
+            step(&mut pair, &call.bytes())?;
         }
     }
-    if stage.can(11) {
-        let there = pair.plain.now.file().len();
-        for from in (0..if large { there.min(20_000) } else { there }).step_by(1024) {
-            step(&mut pair, &Call::Save { from: from as u32, count: (there - from).min(1024) as u32 }.bytes())?;
-        }
-    }
-    if stage.can(5) {
-        let steps = pair.plain.undos().min(if large { 5 } else { 60 });
-        for _ in 0..steps {
-            step(&mut pair, &Call::Undo.bytes())?;
-            step(&mut pair, &Call::Count { way: 1 }.bytes())?;
-        }
-        for _ in 0..steps {
-            step(&mut pair, &Call::Redo.bytes())?;
-            step(&mut pair, &Call::Count { way: 2 }.bytes())?;
-        }
-    }
-    Ok(count)
+    tally.random += calls;
+    tally.besides += count - calls;
+    Ok(())
 }
 
 fn main() {
@@ -426,26 +473,20 @@ fn main() {
         _ => usage(),
     };
     let mut tally = Tally::default();
-    let mut all = 0;
     for number in only.map_or(0..desks, |n| n..n + 1) {
-        match desk(stage, seed, number, calls, only.is_some(), &mut tally) {
-            Ok(count) => all += count,
-            Err(f) => {
-                println!("different: seed {seed}, desk {number}, call {}", f.number);
-                println!("limits {} {} {}", f.limits.cells, f.limits.changes, f.limits.undos);
-                if f.number > 0 {
-                    println!("call:  {}", shown_call(&f.call));
-                }
-                println!("{}", f.wrong);
-                println!("all calls of this desk: random {} {desks} {calls} {seed} {number}", args[0]);
-                std::process::exit(1);
+        if let Err(f) = desk(stage, seed, number, calls, only.is_some(), &mut tally) {
+            println!("different: seed {seed}, desk {number}, call {}", f.number);
+            println!("limits {} {} {}", f.limits.cells, f.limits.changes, f.limits.undos);
+            if f.number > 0 {
+                println!("call:  {}", shown_call(&f.call));
             }
+            println!("{}", f.wrong);
+            println!("all calls of this desk: random {} {desks} {calls} {seed} {number}", args[0]);
+            std::process::exit(1);
         }
     }
-    let list = |counts: &[u64]| counts.iter().enumerate().filter(|c| *c.1 > 0).map(|(n, c)| format!("{n}: {c}")).collect::<Vec<_>>().join(", ");
-    println!("calls done, by first byte: {}", list(&tally.done));
-    println!("calls refused, by number: {}", list(&tally.refused));
-    println!("{desks} desks, {all} calls, seed {seed}: the same answers");
+    tally.print(stage);
+    println!("{desks} desks with {calls} random calls each: {}, and {} to fill and to look through them; seed {seed}: the same answers", tally.random, tally.besides);
 }
 
 fn usage() -> ! {

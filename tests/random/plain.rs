@@ -365,11 +365,43 @@ impl Paper {
     }
 }
 
+/// A whole list, kept beside another that has the same front and the same back: so long lists of calls do not keep each cell thousands of times.
+#[derive(Clone)]
+struct Beside<T> {
+    front: usize,
+    between: Vec<T>,
+    back: usize,
+}
+
+impl<T: Copy + PartialEq> Beside<T> {
+    fn new(list: &[T], other: &[T]) -> Beside<T> {
+        let front = list.iter().zip(other).take_while(|(a, b)| a == b).count();
+        let back = list[front..].iter().rev().zip(other[front..].iter().rev()).take_while(|(a, b)| a == b).count();
+        Beside { front, between: list[front..list.len() - back].to_vec(), back }
+    }
+
+    /// The list, from the other one.
+    fn whole(&self, other: &[T]) -> Vec<T> {
+        [&other[..self.front], &self.between, &other[other.len() - self.back..]].concat()
+    }
+}
+
 /// A paper that undo or redo brings back, and how many cells the call between was about.
 #[derive(Clone)]
-struct Kept {
-    paper: Paper,
-    cells: usize,
+pub struct Kept {
+    cells: Beside<Cell>,
+    changes: Beside<Change>,
+    about: usize,
+}
+
+impl Kept {
+    fn new(paper: &Paper, now: &Paper, about: usize) -> Kept {
+        Kept { cells: Beside::new(&paper.cells, &now.cells), changes: Beside::new(&paper.changes, &now.changes), about }
+    }
+
+    fn paper(&self, now: &Paper) -> Paper {
+        Paper { cells: self.cells.whole(&now.cells), changes: self.changes.whole(&now.changes) }
+    }
 }
 
 #[derive(Clone)]
@@ -447,21 +479,31 @@ impl Desk {
         if cells && changes { Ok(()) } else { Err((9, 0)) }
     }
 
-    /// To be done before the paper is written to, by a call about so many cells. A desk that cannot undo keeps no papers.
-    fn keep(&mut self, cells: usize) {
-        self.future.clear();
+    /// Writes to the paper, by a call about so many cells, and keeps the paper as it was. A desk that cannot undo keeps none.
+    fn write(&mut self, about: usize, write: impl FnOnce(&mut Paper)) {
         if !self.stage.can(5) {
-            return;
+            return write(&mut self.now);
         }
-        if 1 + cells > self.max_undos as usize {
-            self.past.clear();
-            return;
+        let before = self.now.clone();
+        write(&mut self.now);
+        self.future.clear();
+        self.past.push(Kept::new(&before, &self.now, about));
+        while self.counted() > self.max_undos as usize {
+            self.past.remove(0);
         }
-        self.past.push(Kept { paper: self.now.clone(), cells });
-        let mut all: usize = self.past.iter().map(|k| 1 + k.cells).sum();
-        while all > self.max_undos as usize {
-            all -= 1 + self.past.remove(0).cells;
-        }
+    }
+
+    /// What can be undone, all together.
+    pub fn counted(&self) -> usize {
+        self.past.iter().map(|k| 1 + k.about).sum()
+    }
+
+    /// Brings a paper back, and gives what it takes to have the present one again.
+    fn bring_back(&mut self, kept: &Kept) -> Kept {
+        let paper = kept.paper(&self.now);
+        let now = Kept::new(&self.now, &paper, kept.about);
+        self.now = paper;
+        now
     }
 
     pub fn answer(&mut self, call: &Call) -> Result<Answer, Refusal> {
@@ -472,51 +514,45 @@ impl Desk {
             Call::Put { author, place, style, letters } => {
                 self.cells_there(*place, 0, 1)?;
                 self.room(letters.len())?;
-                self.keep(letters.len());
-                self.now.put(*author as u8, *place as usize, *style as u8, letters);
+                self.write(letters.len(), |paper| paper.put(*author as u8, *place as usize, *style as u8, letters));
                 Ok(Answer::Number(self.now.changes.len() as u32 - 1))
             }
             Call::Strike { author, place, count } => {
                 self.cells_there(*place, *count, 1)?;
                 self.room(0)?;
-                self.keep(*count as usize);
-                self.now.strike(*author as u8, *place as usize, *count as usize);
+                self.write(*count as usize, |paper| paper.strike(*author as u8, *place as usize, *count as usize));
                 Ok(Answer::Number(self.now.changes.len() as u32 - 1))
             }
             Call::Accept { change } => {
                 self.change_open(*change)?;
                 let marked = self.now.marked(*change);
-                self.keep(marked);
-                self.now.accept(*change);
+                self.write(marked, |paper| paper.accept(*change));
                 Ok(Answer::Number(marked as u32))
             }
             Call::Reject { change } => {
                 self.change_open(*change)?;
                 let marked = self.now.marked(*change);
-                self.keep(marked);
-                self.now.reject(*change);
+                self.write(marked, |paper| paper.reject(*change));
                 Ok(Answer::Number(marked as u32))
             }
             Call::Style { place, count, style } => {
                 self.cells_there(*place, *count, 0)?;
-                self.keep(*count as usize);
-                for cell in &mut self.now.cells[*place as usize..(*place + *count) as usize] {
-                    cell.style = *style as u8;
-                }
+                let cells = *place as usize..(*place + *count) as usize;
+                self.write(*count as usize, |paper| paper.cells[cells].iter_mut().for_each(|c| c.style = *style as u8));
                 Ok(Answer::Number(*count))
             }
             Call::Undo => {
                 let before = self.past.len() as u32;
-                let Some(Kept { paper, cells }) = self.past.pop() else { return Err((7, 0)) };
-                let paper = std::mem::replace(&mut self.now, paper);
-                self.future.push(Kept { paper, cells });
+                let kept = self.past.pop().ok_or((7, 0))?;
+                let now = self.bring_back(&kept);
+                self.future.push(now);
                 Ok(Answer::Number(before))
             }
             Call::Redo => {
                 let before = self.future.len() as u32;
-                let Some(Kept { paper, cells }) = self.future.pop() else { return Err((7, 0)) };
-                let paper = std::mem::replace(&mut self.now, paper);
-                self.past.push(Kept { paper, cells });
+                let kept = self.future.pop().ok_or((7, 0))?;
+                let now = self.bring_back(&kept);
+                self.past.push(now);
                 Ok(Answer::Number(before))
             }
             Call::Show { way, width, first, count } => {

@@ -1,3 +1,4 @@
 pub mod Transcript
 pub mod Serving
 pub mod Open
+pub mod OneSound

@@ -1,7 +1,7 @@
 // An open desk in memory of its own.
 ghost use Rattle.std.specs.Prelude.{◌≡◌, ◌≤◌, true, IfOk, vec_len};
-ghost use Rattle.std.proofs.Props.{props};
 ghost use Rattle.session.specs.Memory.{Sound};
+ghost use Rattle.transcript.specs.OneSound.{sound_prop};
 ghost use Rattle.transcript.specs.Transcript.{room_for};
 
 use crate::{refuse, tell};
@@ -18,7 +18,7 @@ pub(crate) struct OpenDesk {
     undo: Vec<u32>,
     // Room for the longest answer.
     answer: Vec<u8>,
-    ghost sound: { Sound cells.items pieces.items undo.items } by { Prim.hlevel props },
+    ghost sound: { Sound cells.items pieces.items undo.items } by { sound_prop cells.items pieces.items undo.items },
     ghost room: { 262405 ≤ vec_len answer },
 }
 

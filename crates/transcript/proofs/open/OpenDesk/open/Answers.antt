@@ -22,3 +22,8 @@ returns c =
       ap limits_of pieces ∙ opened_limits l.cells l.changes l.undos c.open.new.pieces _ c.in-Ok.ensures.1.pieces,
       stands_there new_desk (sym cells) (sym pieces) (sym undo) c.in-Ok.ensures.1.stands,
     )
+
+pub invariant_of-result-clause-sound : goal.invariant_of-result-clause-sound
+invariant_of-result-clause-sound c =
+    (stands_there new_desk (sym (with_items_is c.in_ok-cells.cells c.open.new.cells (omega arith))) (sym (with_items_is c.in_ok-pieces.pieces c.open.new.pieces (omega arith)))
+    (sym (with_items_is c.in_ok-undo.undo c.open.new.undo (omega arith))) c.in-Ok.ensures.1.stands).sound
