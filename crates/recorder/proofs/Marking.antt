@@ -151,12 +151,6 @@ module _ {u v : List ℕ} {xs rest left : List Cell} {c first i n : ℕ} {x : Ce
   }
 
 -- a piece: all its cells, or none if it lacks the mark
-pub piece_is : (cells p : List ℕ) (k from n : ℕ) → from ≡ number p k 0 → n ≡ used p k → cells_at cells from n ≡ piece cells p k
-unfolding piece
-piece_is cells p k from n e f =
-    let z : from ≡ 1024 * slot p k = omega arith in
-    ap (λ i. cells_at cells i n) z ∙ ap (cells_at cells (1024 * slot p k)) f
-
 lacks_not : (xs : List Cell) (c i : ℕ) → AllByRecursion (Lacks (suc c)) xs → marks_of xs c i ≡ []
 unfolding marks_of
 lacks_not [] c i all = refl

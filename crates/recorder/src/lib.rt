@@ -195,9 +195,7 @@ fn mark_piece(words: &mut [u32], text: &Text, k: usize, change: u32, first: usiz
     if !text.may_have(k, change + 1) {
         return 0;
     }
-    // The words of the piece: a function would be a name for this one line.
-    let cells = slots::part(text.cells, text.number_of(k, 0), text.used(k));
-    mark_cells(words, cells, change, first)
+    mark_cells(words, text.words_of(k), change, first)
 }
 
 // Writes all cells of the text that have the mark, each with its place.

@@ -49,6 +49,7 @@ fn went(cell: Cell, verdict: Verdict, change: u32) -> bool
         Verdict::Accepted => cell.struck,
         Verdict::Rejected => cell.put_in,
     };
+    // The test of a mark as `sweep` has it, which this crate does not stand above.
     u64::from(mark) == u64::from(change) + 1
 }
 

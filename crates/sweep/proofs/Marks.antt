@@ -42,15 +42,8 @@ touched_lacks c (x ∷ xs) all =
     rw (ne_eqb x.put_in (suc c) all.0.put_in, ne_eqb x.struck (suc c) all.0.struck) (ap (λ n. 0 + n) (touched_lacks c xs all.1))
 
 -- the cells of piece k
-pub touched_here : (w p xs : List ℕ) (k c m at u r : ℕ) → m ≡ suc c → at ≡ number p k 0 → u ≡ used p k → all_cells xs ≡ cells_at w at u → r ≡ marked m (all_cells xs)
-    → r ≡ touched (piece w p k) c
-unfolding piece
-touched_here w p xs k c m at u r d e f g h =
-    let z : at ≡ 1024 * slot p k = omega arith in
-    let here : cells_at w at u ≡ piece w p k = rw (z, f) in
-    let count = touched_count (piece w p k) c in
-    let r' : r ≡ marked (suc c) (piece w p k) = h ∙ ap (λ n. marked n (all_cells xs)) d ∙ ap (marked (suc c)) (g ∙ here) in
-    r' ∙ sym count
+pub touched_here : (xs ys : List Cell) (c m r : ℕ) → m ≡ suc c → ys ≡ xs → r ≡ marked m ys → r ≡ touched xs c
+touched_here xs ys c m r d g h = h ∙ ap (λ n. marked n ys) d ∙ ap (marked (suc c)) g ∙ sym (touched_count xs c)
 
 -- a mark that fits no word
 pub touched_past : (w : List ℕ) (c : ℕ) → ((k : ℕ) → get_or w k 0 < 2 ^ 32) → 2 ^ 32 ≤ suc c → (a n : ℕ) → touched (cells_at w a n) c ≡ 0

@@ -92,6 +92,7 @@ fn shrink(p: &mut [u32], s: usize, k: usize, n: usize, action: Action)
     pieces::resize(p, k, n);
     match action {
         Action::Strike { mark, .. } => {
+            // 0 is no mark: such a strike notes none.
             if mark > 0 {
                 pieces::add_mark(p, s, k, mark);
             }
@@ -136,9 +137,7 @@ fn touched_piece(text: &Text, k: usize, change: u32) -> usize
     if !text.may_have(k, mark) {
         return 0;
     }
-    // The words of the piece: a function would be a name for this one line.
-    let cells = slots::part(text.cells, text.number_of(k, 0), text.used(k));
-    marked_cells(cells, mark)
+    marked_cells(text.words_of(k), mark)
 }
 
 // How many cells of piece `k` a sweep is about: those with the mark of the change that is decided, or all. If there are none, it leaves the piece as it is.
@@ -153,7 +152,7 @@ fn concerned(text: &Text, k: usize, action: Action) -> usize
     }
 }
 
-// What a sweep does, with the changes of which its marks tell.
+// What a sweep does, with the changes of which its marks tell. No `PartialEq` and no `Hash`, as `Row` has none.
 #[derive(Clone, Copy, Debug)]
 struct Sweep<'a> {
     row: Row<'a>,
@@ -185,7 +184,8 @@ impl<'a> Sweep<'a> {
     }
 
     // Writes what becomes of cell `i` behind the first `stay` cells, all counted from number `at` on. Returns how many there are now.
-    // `at` stands beside the words, here and below, as the cells behind those that are swept are moved in the same words.
+    // `at` stands beside the words, here and below: the contracts say of all the words which may have changed (`Kept`); of a slice each caller would have to
+    // say again what part of the words it is.
     fn sweep_cell(&self, c: &mut [u32], at: usize, i: usize, stay: usize) -> usize
         requires room { 4 * (at + i) + 4 ≤ length c.old }
         requires behind { stay ≤ i }
@@ -250,7 +250,7 @@ impl<'a> Sweep<'a> {
 
     // Sweeps all cells of piece `k`, and makes its set of marks anew: it then has no mark that none of its cells has. A piece without a cell that the sweep
     // is about is only read. Returns how many such cells there were.
-    // The slices apart, as `remark` makes the set right only after the piece.
+    // The slices apart, as in `sweep_piece`: of a `TextMut` each contract would have to say too that it is the same memory, as `Rewrites` does for a whole sweep.
     fn sweep_whole(&self, c: &mut [u32], p: &mut [u32], s: usize, k: usize) -> usize
         requires store { Store c.old p.old s }
         requires here { k < s }
@@ -306,7 +306,7 @@ pub fn sweep_all(text: &mut TextMut, row: &Row, action: Action) -> u32
 {
     let sweep = Sweep { row: *row, action };
     let mut count = 0;
-    // An index, as the order of the slots is lent memory.
+    // By its number, which each question about a piece takes.
     for k in 0..text.slots {
         count += sweep.sweep_whole(text.cells, text.tables, text.slots, k);
     }
@@ -318,7 +318,7 @@ pub fn touched(text: &Text, change: u32) -> u32
     ensures { result ≡ touches (cells_in text.now) change }
 {
     let mut count = 0;
-    // An index, as the order of the slots is lent memory.
+    // By its number, which each question about a piece takes.
     for k in 0..text.slots {
         count += touched_piece(text, k, change);
     }

@@ -1,5 +1,6 @@
 use Rattle.std.proofs.Common.{◌≡◌, suc, sym, arith}
 use Rattle.pieces.specs.Store.{piece}
+use Rattle.slots.specs.Cells.{all_cells}
 use Rattle.sweep.proofs.Marks.{touched_here, touched_lacks, touched_past_here}
 use Rattle.sweep.proofs.touched_piece.Goals as goal
 
@@ -21,5 +22,4 @@ returns-clause-count c =
     let text = c.args.text.now in
     let is = c.in-Some.ensures.1 in
     let m : c.in-Some.mark ≡ suc c.args.change = omega arith in
-    touched_here text.cells.now text.tables.now c.part-cells.result.now c.args.k c.args.change c.in-Some.mark c.number_of.result c.used.result c.marked_cells.result m
-    c.number_of.ensures c.used.ensures c.part-cells.ensures.cells c.marked_cells.ensures.count
+    touched_here (piece text.cells.now text.tables.now c.args.k) (all_cells c.words_of.result.now) c.args.change c.in-Some.mark c.marked_cells.result m c.words_of.ensures.cells c.marked_cells.ensures.count
