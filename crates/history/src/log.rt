@@ -88,6 +88,7 @@ pub fn step_back(u: &mut [u32]) -> usize
     ensures rest { drop 7 u.new ≡ drop 7 u.old }
 {
     let log = State::read(u);
+    // An entry's size and count by index, here and below: `read_head` would make a whole head for one or two of its words.
     let size = u[STATE - 1 + log.cursor as usize];
     let cursor = log.cursor - size;
     let at = STATE + cursor as usize;
