@@ -1,4 +1,4 @@
-/* Opens a desk, writes a sentence, shows it, and prints the refusal of a bad call.
+/* Opens a desk, writes a sentence, shows it, undoes, and prints the refusal of a bad call.
  *
  *   (cd crates/capi && rt lib)
  *   mkdir -p target && cc -O2 -Iinclude examples/office.c crates/capi/out/libcapi.a -o target/office
@@ -37,7 +37,7 @@ static int open_desk(desk *d)
         if (words < 0)
             return 0;
         d->len[which] = (size_t)words;
-        d->words[which] = calloc(d->len[which] + 1, sizeof(uint32_t)); /* no null pointer, even for 0 words */
+        d->words[which] = calloc(d->len[which], sizeof(uint32_t));
         if (d->words[which] == NULL)
             return 0;
     }
@@ -110,6 +110,9 @@ int main(void)
     tell(&d, "put by author 2", call, put(call, 2, 4, 0, "old "));
     tell(&d, "rows of 64", call, show(call, 0, 64, 0, 1));
     tell(&d, "rows of 6", call, show(call, 0, 6, 0, 4));
+    call[0] = 5;
+    tell(&d, "undo, of so many calls", call, 1);
+    tell(&d, "rows of 64", call, show(call, 0, 64, 0, 1));
     tell(&d, "a row that is not there", call, show(call, 0, 64, 1, 1));
     tell(&d, "a put past the end", call, put(call, 1, 99, 0, "!"));
     tell(&d, "half a call", call, 7);

@@ -6,7 +6,9 @@
  * so different desks may be used by different threads.
  *
  * Limits. A desk is opened with three: how many cells its paper may have (up to 1,000,000), how many changes (up to 65,536), and how
- * much can be undone (up to 1,000,000; a call that writes counts one and the cells that it is about).
+ * much can be undone (up to 1,000,000). Each of calls 0 to 4 counts one and the cells that it is about: those that it puts in, strikes
+ * at or styles, or that have the mark of the change that it decides. The latest can be undone as long as they count at most the limit
+ * together; one that counts more by itself is done all the same, and nothing can be undone after it.
  *
  * The paper is a row of cells and a row of changes. A cell is a letter (32 to 126, or 10, which ends a paragraph), a style (0 to
  * 255), and two marks: by which open change it was put in, and by which it was struck out; 0 for none, else one more than the
@@ -44,7 +46,7 @@
  *
  *    1  a call that cannot be read (the first byte that does not fit: 0 if the first byte is missing or no call's, the number of
  *       bytes that came if some are missing, the first byte too many)
- *    2  a field out of range, or a call that this desk cannot do (0)
+ *    2  a field out of range (0)
  *    3  at opening only: limits out of range (1), or less memory than they ask for (0)
  *    4  cells that are not there (1 in put and strike, 0 in style)
  *    5  a change that is not there (0)
@@ -74,8 +76,9 @@ enum { DESK_CELLS = 0, DESK_PIECES = 1, DESK_UNDO = 2 };
 #define DESK_REFUSAL(r) ((uint32_t)(-(r) / 4294967296))
 #define DESK_PLACE(r) ((uint32_t)(-(r) % 4294967296))
 
-/* How many 32-bit words an array needs for these limits: which is DESK_CELLS, DESK_PIECES or DESK_UNDO. It may be 0. All three
- * together are at most 8 for each cell and change, 16 for each that can be undone, and 65,536 more.
+/* How many 32-bit words an array needs for these limits: which is DESK_CELLS, DESK_PIECES or DESK_UNDO. What can be
+ * undone takes 16 words, and 16 more for each that the limit allows. All three together are at most 8 for each cell and change, 16 for
+ * each that can be undone, and 65,536 more.
  * Refused: any other which, -(2 * 2^32); limits out of range, -(3 * 2^32 + 1). */
 int64_t desk_words(uint32_t which, uint32_t max_cells, uint32_t max_changes, uint32_t max_undos);
 
