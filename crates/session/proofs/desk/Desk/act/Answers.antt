@@ -22,36 +22,36 @@ returns-in_err-way-in-Count c =
     let bad = c.in_err-way-in-Count.ensures.1 in
     absurd (omega (arith, good, bad))
 
-pub returns-in_default-try_from : goal.returns-in_default-try_from
-returns-in_default-try_from c =
+pub returns-in_err-way-in-Find : goal.returns-in_err-way-in-Find
+returns-in_err-way-in-Find c =
     let good : c.in-Find.way < 3 =
     (find_range c.args.self.now.cells.now c.args.self.now.pieces.now c.in-Find.way c.in-Find.from c.args.letters.now c.args.self.now.held (rw c.in-Find.is at c.requires.good)).0 in
-    let bad = c.in_default-try_from.ensures.1 in
+    let bad = c.in_err-way-in-Find.ensures.1 in
     absurd (omega (arith, good, bad))
 
-pub returns-in-Ok : goal.returns-in-Ok
+pub returns-in_ok-way-in-Count : goal.returns-in_ok-way-in-Count
 unfolding call_number
-returns-in-Ok c =
+returns-in_ok-way-in-Count c =
     rw c.in-Count.is record {
       same_cells = refl;
       same_pieces = refl;
       same_undo = refl;
       handled =
-          rw c.in-Ok.ensures at
-          (looked_handled c.args.self.now.cells.now c.args.self.now.pieces.now c.args.self.now.undo.now (count (way_number c.in-Ok.way)) refl (number c.count.result)
+          rw c.in_ok-way-in-Count.ensures at
+          (looked_handled c.args.self.now.cells.now c.args.self.now.pieces.now c.args.self.now.undo.now (count (way_number c.in_ok-way-in-Count.way)) refl (number c.count.result)
           (omega arith) c.count.ensures);
     }
 
-pub returns-in-Ok-try_from : goal.returns-in-Ok-try_from
+pub returns-in_ok-way-in-Find : goal.returns-in_ok-way-in-Find
 unfolding call_number
-returns-in-Ok-try_from c =
+returns-in_ok-way-in-Find c =
     rw c.in-Find.is record {
       same_cells = refl;
       same_pieces = refl;
       same_undo = refl;
       handled =
-          rw c.in-Ok-try_from.ensures at
-          (looked_handled c.args.self.now.cells.now c.args.self.now.pieces.now c.args.self.now.undo.now (find (way_number c.in-Ok-try_from.way) c.in-Find.from c.args.letters.now) refl
+          rw c.in_ok-way-in-Find.ensures at
+          (looked_handled c.args.self.now.cells.now c.args.self.now.pieces.now c.args.self.now.undo.now (find (way_number c.in_ok-way-in-Find.way) c.in-Find.from c.args.letters.now) refl
           (number c.find.result) (omega arith) c.find.ensures);
     }
 
