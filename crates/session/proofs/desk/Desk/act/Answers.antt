@@ -7,15 +7,6 @@ use Rattle.session.proofs.Serving.{looked_handled}
 use Rattle.session.specs.Refusals.{outcome}
 use Rattle.session.proofs.desk.Desk.act.Goals as goal
 
-pub put-requires : goal.put-requires
-put-requires c = record { sound = c.requires.sound; good = rw c.in-Put.is at c.requires.good }
-
-pub strike-requires : goal.strike-requires
-strike-requires c = record { sound = c.requires.sound; good = rw c.in-Strike.is at c.requires.good }
-
-pub style-requires : goal.style-requires
-style-requires c = record { sound = c.requires.sound; good = rw c.in-Style.is at c.requires.good }
-
 pub returns-in_default : goal.returns-in_default
 returns-in_default c =
     let good = count_range c.in-Count.way (rw c.in-Count.is at c.requires.good) in
@@ -55,21 +46,6 @@ returns-in-Ok-try_from c =
           (number c.find.result) (omega arith) c.find.ensures);
     }
 
-pub returns-in-Put : goal.returns-in-Put
-returns-in-Put c = rw c.in-Put.is c.put.ensures
-
-pub returns-in-Strike : goal.returns-in-Strike
-returns-in-Strike c = rw c.in-Strike.is c.strike.ensures
-
-pub returns-in-Accept : goal.returns-in-Accept
-returns-in-Accept c = rw c.in-Accept.is c.decide.ensures
-
-pub returns-in-Reject : goal.returns-in-Reject
-returns-in-Reject c = rw c.in-Reject.is c.decide-in-Reject.ensures
-
-pub returns-in-Style : goal.returns-in-Style
-returns-in-Style c = rw c.in-Style.is c.style.ensures
-
 pub returns-in-Change : goal.returns-in-Change
 unfolding call_number
 returns-in-Change c =
@@ -80,9 +56,3 @@ returns-in-Change c =
       handled =
           looked_handled c.args.self.now.cells.now c.args.self.now.pieces.now c.args.self.now.undo.now (change c.in-Change.change) refl (outcome c.ask.result) (omega arith) c.ask.ensures;
     }
-
-pub returns-in-Undo : goal.returns-in-Undo
-returns-in-Undo c = rw c.in-Undo.is c.undo.ensures
-
-pub returns-in-Redo : goal.returns-in-Redo
-returns-in-Redo c = rw c.in-Redo.is c.redo.ensures
