@@ -382,16 +382,6 @@ letter_low [] k h b = absurd (omega arith)
 letter_low (x ∷ xs) zero h b = low_letter x (both_true (eqb x 10 || (leb 32 x && leb x 126)) (good_letters xs) h).0
 letter_low (x ∷ xs) (suc k) h b = letter_low xs k (both_true (eqb x 10 || (leb 32 x && leb x 126)) (good_letters xs) h).1 (omega arith)
 
--- one letter more is copied
-pub copy_more : (ls cp : List ℕ) (i : ℕ) → i < length ls → i < length cp → set (take i ls ++ drop i cp) i (get_or ls i 0) ≡ take (i + 1) ls ++ drop (i + 1) cp
-copy_more [] cp i a b = absurd (omega arith)
-copy_more (x ∷ ls) [] i a b = absurd (omega arith)
-copy_more (x ∷ ls) (y ∷ cp) zero a b = refl
-copy_more (x ∷ ls) (y ∷ cp) (suc i) a b =
-    let e : suc i + 1 ≡ suc (i + 1) = omega arith in
-    let more : set (take i ls ++ drop i cp) i (get_or ls i 0) ≡ take (i + 1) ls ++ drop (i + 1) cp = copy_more ls cp i (omega arith) (omega arith) in
-    ap (λ (zs : List ℕ). x ∷ zs) more ∙ ap (λ (k : ℕ). take k (x ∷ ls) ++ drop k (y ∷ cp)) (sym e)
-
 -- the letters that were copied are those of the put
 pub copied : (us xs : List ℕ) (from n m : ℕ) → m ≡ n → from + n ≤ length us → take (length (take m (drop from us))) xs ≡ take m (drop from us) →
     take n xs ≡ take n (drop from us)

@@ -7,7 +7,7 @@ use Rattle.codec.specs.Bytes.{answer_bytes}
 use Rattle.codec.specs.Reading.{Reading, reading, call_is, ceases}
 use Rattle.history.specs.Entry.{Entry, entry_of}
 use Rattle.history.specs.Steps.{kept, StandsFor, desk_of as desk_for}
-use Rattle.history.specs.Log.{Keeps, Log}
+use Rattle.history.specs.Log.{Log}
 use Rattle.history.proofs.Stepping.{write_steps, turned_keeps, looking_keeps}
 use Rattle.session.specs.Memory.{limits_of, paper_of, Sound, Stands}
 use Rattle.session.specs.Acts.{Wrote, desk_of, Acted, Recorded}
@@ -176,10 +176,6 @@ module _ (cs ps us : List ℕ) (c : Call) (by : by_paper c ≡ true) where
         };
         beyond = same_beyond cs ps us;
       }
-
--- sound memory keeps a log
-pub keeps : {cs ps us : List ℕ} → Sound cs ps us → Keeps us (get_or ps 2 0)
-keeps s = record { back = s.back; ahead = s.ahead; log = s.log }
 
 -- the desk that sound memory holds
 pub held_desk : (cs ps us : List ℕ) (s : Sound cs ps us) → Stands cs ps us (desk_for (paper_of cs ps) s.back s.ahead)

@@ -55,7 +55,7 @@ with_changes p rows = record { cells = p.cells; changes = rows }
 abbrev pub allows : List ℕ → ℕ → Bool
 allows ps cells = nat_le cells (slice_index ps 0) && nat_lt (slice_index ps 3) (slice_index ps 1)
 
--- the entry e was written into the log, which keeps entries up to a limit; the words beyond are as they were
+-- the entry e became the latest in the log, which keeps entries up to a limit; the words beyond are as they were
 pub record Recorded (us us' : List ℕ) (limit : ℕ) (e : Entry) : Type 0 where
   pub records : Records us us' limit e
   pub beyond : drop (undo_words limit) us' ≡ drop (undo_words limit) us

@@ -14,17 +14,18 @@ use Rattle.session.specs.Acts.{desk_of}
 abbrev pub entry_in : List ℕ → ℕ → Entry
 entry_in us a = read_entry (drop a us)
 
+-- an entry stands there, all of it in these words
 pub record There (us : List ℕ) (a : ℕ) : Type 0 where
   pub stands : EntryAt us a (entry_in us a)
   pub inside : a + entry_size (entry_in us a) ≤ length us
 
--- it can be undone on the paper in memory, and the paper before was within the limits
+-- the entry there can be undone on the paper in memory, and the paper before was within the limits
 pub record CanUndo (cs ps us : List ℕ) (a : ℕ) : Type 0 where
   pub there : There us a
   pub can : UndoCan (entry_in us a) (paper_of cs ps)
   pub fits : fit_limits (limits_of ps) (undo_of (entry_in us a) (paper_of cs ps)) ≡ true
 
--- its call can be done again
+-- the call of the entry there can be done again
 pub record CanRedo (cs ps us : List ℕ) (a : ℕ) : Type 0 where
   pub there : There us a
   pub allowed : turned (limits_of ps) (desk_of cs ps) (call_of (entry_in us a)) ≡ 0
@@ -37,7 +38,7 @@ row_back Accept who rows = with_became rows who 0
 row_back Reject who rows = with_became rows who 0
 row_back Style who rows = rows
 
--- and what that needs of a row of n changes
+-- what taking it back needs of a row of n changes
 abbrev pub RowCan : Kind → ℕ → ℕ → Type 0
 RowCan Put who n = 0 < n
 RowCan Strike who n = 0 < n

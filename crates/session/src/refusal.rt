@@ -12,7 +12,7 @@ use model::UnknownWay;
 pub enum Refusal {
     /// The bytes are no call: number `at` is the first that does not fit.
     NotACall { at: usize },
-    /// A number or the letters are out of range, or this desk cannot do such a call.
+    /// A number or the letters are out of range.
     OutOfRange,
     /// No desk can have these limits.
     LimitsOutOfRange,

@@ -1,15 +1,11 @@
 -- One letter more, and at the end all.
-use Rattle.std.proofs.Common.{◌≡◌, ◌++◌, length, get_or, take, drop, set, ap, ◌∙◌, arith}
+use Rattle.std.proofs.Common.{◌≡◌, ◌++◌, length, take, drop, ap, ◌∙◌, arith}
 use Rattle.std.proofs.lemmas.List.{take_all, take_at}
-use Rattle.session.proofs.Reversing.{copy_more, letter_low}
+use Rattle.session.proofs.Reversing.{letter_low}
 use Rattle.session.proofs.undoing.copy_letters.Goals as goal
 
 pub overflow_cast-letters : goal.overflow_cast-letters
 overflow_cast-letters c = record { fits = letter_low c.args.words.now c.loop-i.i c.requires.good (omega arith) }
-
-pub loop-i-preserved : goal.loop-i-preserved
-loop-i-preserved c =
-    ap (λ w. set w c.loop-i.i (get_or c.args.words.now c.loop-i.i 0)) c.loop-i.invariant ∙ copy_more c.args.words.now c.args.letters.now c.loop-i.i (omega arith) (omega (arith, c.requires.room))
 
 pub returns : goal.returns
 returns c =

@@ -2,7 +2,6 @@ use Rattle.std.proofs.Common.{◌≤◌, refl, arith, leb-true}
 use Rattle.std.proofs.Math.Nat.{add-zero}
 use Rattle.std.proofs.lemmas.Result.{err_from_is_err_and}
 use Rattle.session.proofs.Putting.{put_done, put_few, put_nowhere, put_room, put_too_much}
-use Rattle.session.proofs.Serving.{keeps}
 use Rattle.session.proofs.desk.Desk.put.Goals as goal
 
 pub returns-in_default : goal.returns-in_default
@@ -28,8 +27,8 @@ returns-in_err-number c =
           (rw add-zero at c.in-Some.ensures.1) c.in_err-number.ensures.1;
     }
 
-pub put-requires : goal.put-requires
-put-requires c = record { log = keeps c.requires.sound; few = put_few c.args.author c.args.place c.args.style c.args.letters.now c.requires.good }
+pub put-requires-clause-few : goal.put-requires-clause-few
+put-requires-clause-few c = put_few c.args.author c.args.place c.args.style c.args.letters.now c.requires.good
 
 pub write_put-requires : goal.write_put-requires
 write_put-requires c =

@@ -1,7 +1,5 @@
 use Rattle.std.proofs.Common.{◌≡◌, ◌+◌, ◌≤◌, length, get_or, take, drop, sym, subst, List, ℕ, arith}
-use Rattle.model.specs.Calls.{put, rewritten}
 use Rattle.std.proofs.lemmas.List.{length-drop, length-take-le}
-use Rattle.session.specs.Acts.{Wrote}
 use Rattle.session.specs.Memory.{paper_of}
 use Rattle.session.proofs.Reversing.{put_allowed}
 use Rattle.session.proofs.desk.Desk.put_again.Goals as goal
@@ -28,20 +26,4 @@ write_put-requires c =
       few = subst (λ (xs : List ℕ). length xs ≤ 1024) (sym is) ok.1;
       fits = subst (λ (xs : List ℕ). length (paper_of c.args.self.now.cells.now ps).cells + length xs ≤ get_or ps 0 0) (sym is) ok.3;
       room = ok.4;
-    }
-
-pub returns : goal.returns
-returns c =
-    let h = c.args.head in
-    let cs = c.args.self.now.cells.now in
-    let ps = c.args.self.now.pieces.now in
-    let e = c.write_put.ensures in
-    record {
-      same_cells = e.same_cells;
-      same_pieces = e.same_pieces;
-      same_undo = e.same_undo;
-      wrote =
-          subst (λ (xs : List ℕ). Wrote cs ps c.write_put.new.self.cells.now c.write_put.new.self.pieces.now (rewritten (paper_of cs ps) (put h.who h.place h.style xs)))
-          c.letters_at-letters.ensures e.wrote;
-      log = e.log;
     }

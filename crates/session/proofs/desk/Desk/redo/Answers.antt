@@ -1,6 +1,5 @@
 use Rattle.std.proofs.Common.{◌≡◌, ◌<◌, length, get_or, refl, arith}
 use Rattle.session.proofs.Reversing.{can_redo, few_entries, redo_handled, redo_refused}
-use Rattle.session.proofs.Serving.{keeps}
 use Rattle.session.proofs.desk.Desk.redo.Goals as goal
 
 pub returns-then-ahead-eq0 : goal.returns-then-ahead-eq0
@@ -10,13 +9,6 @@ returns-then-ahead-eq0 c =
       same_pieces = refl;
       same_undo = refl;
       handled = redo_refused c.args.self.now.cells.now c.args.self.now.pieces.now c.args.self.now.undo.now c.ahead-ahead.result c.if-ahead-eq0.true c.ahead-ahead.ensures.many;
-    }
-
-pub step_ahead-at-requires : goal.step_ahead-at-requires
-step_ahead-at-requires c =
-    record {
-      log = record { limit = get_or c.args.self.now.pieces.now 2 0; keeps = keeps c.requires };
-      more = omega (arith, c.ahead-ahead.ensures.word, c.if-ahead-eq0.false);
     }
 
 pub do_again-requires : goal.do_again-requires

@@ -1,6 +1,5 @@
 use Rattle.std.proofs.Common.{◌≡◌, ◌<◌, length, get_or, refl, arith}
 use Rattle.session.proofs.Reversing.{can_undo, few_entries, undo_handled, undo_refused}
-use Rattle.session.proofs.Serving.{keeps}
 use Rattle.session.proofs.desk.Desk.undo.Goals as goal
 
 pub returns-then-behind-eq0 : goal.returns-then-behind-eq0
@@ -10,13 +9,6 @@ returns-then-behind-eq0 c =
       same_pieces = refl;
       same_undo = refl;
       handled = undo_refused c.args.self.now.cells.now c.args.self.now.pieces.now c.args.self.now.undo.now c.behind-behind.result c.if-behind-eq0.true c.behind-behind.ensures.many;
-    }
-
-pub step_back-at-requires : goal.step_back-at-requires
-step_back-at-requires c =
-    record {
-      log = record { limit = get_or c.args.self.now.pieces.now 2 0; keeps = keeps c.requires };
-      more = omega (arith, c.behind-behind.ensures.word, c.if-behind-eq0.false);
     }
 
 pub take_back-requires : goal.take_back-requires
