@@ -248,7 +248,7 @@ impl<'a> Sweep<'a> {
         left
     }
 
-    // Sweeps all cells of piece `k`, and makes its set of marks anew: it then has no mark that none of its cells has. A piece without a cell that the sweep
+    // Sweeps all cells of piece `k`, and makes its set of marks anew, from the cells that are left (no contract says that it has no others). A piece without a cell that the sweep
     // is about is only read. Returns how many such cells there were.
     // The slices apart, as in `sweep_piece`: of a `TextMut` each contract would have to say too that it is the same memory, as `Rewrites` does for a whole sweep.
     fn sweep_whole(&self, c: &mut [u32], p: &mut [u32], s: usize, k: usize) -> usize

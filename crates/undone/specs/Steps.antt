@@ -1,5 +1,5 @@
 -- A call that writes, then undo, then redo, on lent memory. Each of these is a statement, proved on a function's contract.
-use Rattle.std.specs.Prelude.{◌≡◌, true, List, ℕ, suc, ◌≤◌, get_or}
+use Rattle.std.specs.Prelude.{◌≡◌, true, List, ℕ, suc, ◌≤◌, slice_index}
 use Rattle.model.specs.Calls.{Call, undo, redo, Desk, how_much, turned, writes}
 use Rattle.codec.specs.Bytes.{call_bytes}
 use Rattle.codec.specs.Reading.{reading, call_is}
@@ -12,7 +12,7 @@ pub record Wrote (cs ps us bs cs₁ ps₁ us₁ rs₁ : List ℕ) (d : Desk) (c 
   pub reads : reading bs ≡ call_is c
   pub writing : writes c ≡ true
   pub allowed : turned (limits_of ps) d c ≡ 0
-  pub within : suc (how_much d.now c) ≤ get_or ps 2 0
+  pub within : suc (how_much d.now c) ≤ slice_index ps 2
   pub called : Called cs ps us bs cs₁ ps₁ us₁ rs₁
 
 -- undo after it leaves the paper before it in memory
