@@ -5,9 +5,9 @@ use Rattle.std.proofs.lemmas.List.Recursion.{is_count_by}
 use Rattle.std.proofs.lemmas.Bool.{eqb-false, ne_eqb}
 use Rattle.std.proofs.lemmas.List.{length-append, nil_from_length}
 use Rattle.model.specs.Paper.{pick, Cell, Change, touched}
-use Rattle.slots.specs.Cells.{all_cells, cell_at, cells_at}
+use Rattle.slots.specs.Cells.{cell_at, cells_at}
 use Rattle.pieces.specs.Marks.{Lacks}
-use Rattle.pieces.specs.Store.{slot, used, number, piece, strung, pieces_from}
+use Rattle.pieces.specs.Store.{slot, used, piece, strung, pieces_from}
 use Rattle.pieces.proofs.Strung.{strung_more}
 use Rattle.sweep.specs.declared.Action.{Action}
 use Rattle.sweep.specs.declared.Action.TheVariants.{Strike, Accept, Reject, Style}

@@ -34,7 +34,8 @@ pub fn one_meaning()
 fn is_mark(mark: u32, change: u32) -> bool
     ensures { result ≡ (mark == suc change) }
 {
-    mark > 0 && mark - 1 == change
+    // In 64 bits, as the mark of the greatest change would not fit a word; so the mark is worked out once where this is asked of many cells.
+    u64::from(mark) == u64::from(change) + 1
 }
 
 /// Whether the mark is that of a change of the author.
