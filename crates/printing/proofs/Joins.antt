@@ -12,9 +12,6 @@ join3 start {v1} {v2} {v3} {q1} {q2} {q3} {p1} {p2} {p3} n1 e1 n2 e2 n3 e3 = let
 pub join4 : (start : List ℕ) {v1 v2 v3 v4 q1 q2 q3 q4 p1 p2 p3 p4 : List ℕ} → q1 ≡ p1 → v1 ≡ start ++ q1 → q2 ≡ p2 → v2 ≡ v1 ++ q2 → q3 ≡ p3 → v3 ≡ v2 ++ q3 → q4 ≡ p4 → v4 ≡ v3 ++ q4 → v4 ≡ start ++ (p1 ++ (p2 ++ (p3 ++ p4)))
 join4 start {v1} {v2} {v3} {v4} {q1} {q2} {q3} {q4} {p1} {p2} {p3} {p4} n1 e1 n2 e2 n3 e3 n4 e4 = let a : (((start ++ p1) ++ p2) ++ p3) ++ p4 ≡ start ++ (p1 ++ (p2 ++ (p3 ++ p4))) = simp append_assoc in cc
 
-pub join5 : (start : List ℕ) {v1 v2 v3 v4 v5 q1 q2 q3 q4 q5 p1 p2 p3 p4 p5 : List ℕ} → q1 ≡ p1 → v1 ≡ start ++ q1 → q2 ≡ p2 → v2 ≡ v1 ++ q2 → q3 ≡ p3 → v3 ≡ v2 ++ q3 → q4 ≡ p4 → v4 ≡ v3 ++ q4 → q5 ≡ p5 → v5 ≡ v4 ++ q5 → v5 ≡ start ++ (p1 ++ (p2 ++ (p3 ++ (p4 ++ p5))))
-join5 start {v1} {v2} {v3} {v4} {v5} {q1} {q2} {q3} {q4} {q5} {p1} {p2} {p3} {p4} {p5} n1 e1 n2 e2 n3 e3 n4 e4 n5 e5 = let a : ((((start ++ p1) ++ p2) ++ p3) ++ p4) ++ p5 ≡ start ++ (p1 ++ (p2 ++ (p3 ++ (p4 ++ p5)))) = simp append_assoc in cc
-
 -- where the last piece is appended by the call whose answer is returned
 pub at_end : {X E : Type 0} (r : Result X E) {p q : Type 0} → OnOk r p → (p → q) → OnOk r q
 at_end (Ok x) h f = f h

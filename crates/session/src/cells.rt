@@ -71,6 +71,7 @@ pub fn sweep_all(cells: &mut [u32], pieces: &mut [u32], action: Action)
         tables,
         slots,
     };
+    // How many cells it was about is known already: the log had to have room for them.
     sweep::sweep_all(&mut text, &row, action);
 }
 

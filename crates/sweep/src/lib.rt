@@ -34,7 +34,7 @@ pub fn one_meaning()
 fn is_mark(mark: u32, change: u32) -> bool
     ensures { result ≡ (mark == suc change) }
 {
-    // In 64 bits, as the mark of the greatest change would not fit a word; so the mark is worked out once where this is asked of many cells.
+    // In 64 bits, as the mark of the greatest change would not fit a word.
     u64::from(mark) == u64::from(change) + 1
 }
 
@@ -114,7 +114,7 @@ fn words_fit(words: &[u32])
     ensures { (k : ℕ) → slice_index words.now k < 4294967296 }
 {}
 
-// How many of the cells whose words `cells` has have the mark. (`is_touched` would take the mark from the change anew for each cell.)
+// How many of the cells whose words `cells` has have the mark. (By the mark, which whoever asks has at hand.)
 fn marked_cells(cells: &[u32], mark: u32) -> usize
     ensures count { result ≡ marked mark (all_cells cells.now) }
     ensures few { result ≤ length cells.now / 4 }
