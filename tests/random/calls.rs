@@ -21,6 +21,8 @@ pub struct Habits {
     authors: u64,
     weights: [u64; 12],
     odd: u64,
+    /// The way to look and the width of most shows, as of somebody who has one view open: the desk keeps how it found the rows of the last.
+    view: Option<(u32, u32)>,
     /// The last comes first.
     planned: Vec<Next>,
 }
@@ -57,6 +59,7 @@ impl Habits {
             authors: if churn { 1 } else { rng.between(1, 4) },
             weights,
             odd: rng.pick(&[0, 3, 8, 25]),
+            view: rng.percent(70).then(|| (rng.below(3) as u32, rng.between(1, 256) as u32)),
             planned: Vec::new(),
         }
     }
@@ -217,8 +220,10 @@ impl Habits {
     }
 
     fn show(&self, rng: &mut Rng, desk: &Desk) -> Call {
-        let way = self.upto(rng, 2);
-        let width = self.width(rng);
+        let (way, width) = match self.view {
+            Some(view) if rng.percent(80) => view,
+            _ => (self.upto(rng, 2), self.width(rng)),
+        };
         let there = if way < 3 && (1..=256).contains(&width) { rows(width as usize, &desk.now.view(way)).len() as u64 } else { 5 };
         let first = if rng.percent(10) { there.saturating_sub(1) as u32 } else { self.upto(rng, there.saturating_sub(1)) };
         let left = there.saturating_sub(first as u64);

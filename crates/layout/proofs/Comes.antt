@@ -2,7 +2,7 @@
 use Rattle.std.proofs.Common.{◌≡◌, ℕ, ◌<◌, [], ◌∷◌, Option, refl, sym, ap, ◌∙◌, subst, arith}
 use Rattle.model.specs.Values.{cell_of}
 use Rattle.model.specs.declared.Cell.{Cell}
-use Rattle.tree.specs.declared.Spot.{Spot}
+use Rattle.pieces.specs.declared.Spot.{Spot}
 use Rattle.pieces.specs.Store.{used}
 use Rattle.layout.specs.declared.seen.Seen.{Seen}
 use Rattle.layout.specs.declared.sheet.Row.{Row}
@@ -18,7 +18,7 @@ gives_more s at x t g =
 
 -- the same for a sheet whose text is looked at in that way
 module _ (s : Sheet) (i : Seen) (text : i.text ≡ s.text) (way : i.way ≡ s.way) where
-  ahead_is : (t : Spot) → seen_from i t ≡ ahead s t
+  pub ahead_is : (t : Spot) → seen_from i t ≡ ahead s t
   ahead_is t = rw (text, way) refl
 
   module _ (at : Spot) (x : Cell) (j : Seen) (g : GivesCell i at x j) where

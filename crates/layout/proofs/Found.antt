@@ -3,7 +3,7 @@ use Rattle.std.proofs.Common.{◌≡◌, ℕ, suc, ◌+◌, ◌-◌, ◌<◌, �
 use Rattle.std.proofs.lemmas.Bool.{eq-eqb, ne_eqb}
 use Rattle.model.specs.Paper.{pick, Cell}
 use Rattle.model.specs.Rows.{Cut, cut, cut_after}
-use Rattle.tree.specs.declared.Spot.{Spot}
+use Rattle.pieces.specs.declared.Spot.{Spot}
 use Rattle.layout.specs.declared.sheet.Row.{Row}
 use Rattle.layout.specs.declared.sheet.Sheet.{Sheet}
 use Rattle.layout.specs.Seen.{behind}
@@ -103,9 +103,6 @@ module _ (s : Sheet) (t : Spot) (x : Cell) (later : List Cell) (long : ℕ) (spa
 
 -- nothing is left
 module _ (s : Sheet) (t : Spot) (long : ℕ) (space : Option Row) (h : Sought s t [] long space) where
-  pub sought_none : long ≡ 0 → ahead s t ≡ []
-  sought_none z = let r = h.scan.rest in rw z at r
-
   pub sought_all : (long ≡ 0 → ⊥) → (on : Spot) → Within s on → ahead s on ≡ [] → Found s t (record { long = long; next = on })
   sought_all nz on in_on e =
       let r : Row = record { long = long; next = on } in

@@ -1,10 +1,9 @@
-mod Bits
-mod Counts
-mod Spans
 pub mod Spots
 mod Scan
 mod Found
 pub mod Comes
 mod Passed
+mod Fronts
+mod After
 mod Written
 mod Shown

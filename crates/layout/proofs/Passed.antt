@@ -4,7 +4,7 @@ use Rattle.std.proofs.lemmas.Bool.{cases_lt}
 use Rattle.model.specs.Rows.{rows}
 use Rattle.model.specs.Walk.{rest}
 use Rattle.model.proofs.Rows.{rows_left}
-use Rattle.tree.specs.declared.Spot.{Spot}
+use Rattle.pieces.specs.declared.Spot.{Spot}
 use Rattle.layout.specs.declared.sheet.Row.{Row}
 use Rattle.layout.specs.declared.sheet.Sheet.{Sheet}
 use Rattle.layout.specs.Found.{ahead, Within, Found, Passed}

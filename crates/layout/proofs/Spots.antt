@@ -1,23 +1,21 @@
 -- A walk over what is left of a text, from spot to spot.
-use Rattle.std.proofs.Common.{◌≡◌, ℕ, zero, suc, ◌+◌, ◌-◌, ◌*◌, ◌<◌, ◌≤◌, true, false, List, [], ◌∷◌, length, get_or, drop, sym, refl, ap, ◌∙◌, arith}
-use Rattle.std.proofs.lemmas.List.{drop_all, length-drop}
+use Rattle.std.proofs.Common.{◌≡◌, ℕ, zero, suc, ◌+◌, ◌-◌, ◌*◌, ◌<◌, ◌≤◌, true, false, List, [], ◌∷◌, ◌++◌, length, get_or, drop, sym, refl, ap, ◌∙◌, zero-add, arith}
+use Rattle.std.proofs.lemmas.List.{drop_all, drop_at, length-drop}
 use Rattle.model.specs.Paper.{pick, Cell, seen, view}
 use Rattle.model.proofs.Rows.{by_test}
-use Rattle.pieces.specs.Store.{used, cells_of, before, no_cell, Order}
-use Rattle.pieces.proofs.Texts.{length_text, drop_text_more, drop_text_next, text_at}
+use Rattle.pieces.specs.Store.{used, piece, strung, cells_of, before, no_cell, Order}
+use Rattle.pieces.proofs.Strung.{strung_split}
+use Rattle.pieces.proofs.Texts.{length_before, length_text, drop_text_more, drop_text_next, text_at}
 use Rattle.slots.specs.Cells.{cell_at, cells_at}
 use Rattle.slots.proofs.Words.{length_cells}
+use Rattle.kept.proofs.Seen.{view_append, view_none}
 use Rattle.layout.specs.Spots.{left}
-
-view_none : (way : ℕ) → view way [] ≡ []
-unfolding view
-view_none way = refl
 
 view_more : (way : ℕ) (x : Cell) (xs : List Cell) → view way (x ∷ xs) ≡ pick (seen way x) (x ∷ view way xs) (view way xs)
 unfolding view
 view_more way x xs = refl
 
-view_short : (way : ℕ) (xs : List Cell) → length (view way xs) ≤ length xs
+pub view_short : (way : ℕ) (xs : List Cell) → length (view way xs) ≤ length xs
 unfolding view
 view_short way [] = omega arith
 view_short way (x ∷ xs) =
@@ -69,8 +67,27 @@ pub left_all : (c p : List ℕ) (s way : ℕ) → left c p s way 0 0 ≡ view wa
 unfolding left before
 left_all c p s way = refl
 
+-- what is seen of the text, piece k and all after it apart
+pub view_split : (c p : List ℕ) (s way k : ℕ) → k ≤ s → view way (cells_of c p s) ≡ view way (strung (piece c p) 0 k) ++ view way (strung (piece c p) k (s - k))
+view_split c p s way k h =
+    let e : s ≡ k + (s - k) = omega arith in
+    ap (λ n. view way (strung (piece c p) 0 n)) e ∙ ap (view way) (strung_split (piece c p) 0 k (s - k) ∙ rw zero-add refl)
+    ∙ view_append way (strung (piece c p) 0 k) (strung (piece c p) k (s - k))
+
+-- from the front of piece k on
+pub left_front : (c p : List ℕ) (s way k : ℕ) → k ≤ s → left c p s way k 0 ≡ drop (length (view way (strung (piece c p) 0 k))) (view way (cells_of c p s))
+unfolding left
+left_front c p s way k h =
+    let xs : List Cell = strung (piece c p) 0 k in
+    let ys : List Cell = strung (piece c p) k (s - k) in
+    let e : s ≡ k + (s - k) = omega arith in
+    let t : cells_of c p s ≡ xs ++ ys = ap (λ n. strung (piece c p) 0 n) e ∙ strung_split (piece c p) 0 k (s - k) ∙ rw zero-add refl in
+    let l = length_before c p k in
+    let d : drop (before p k + 0) (cells_of c p s) ≡ ys = ap (drop (before p k + 0)) t ∙ drop_at xs ys (before p k + 0) (omega arith) in
+    ap (view way) d ∙ sym (ap (drop (length (view way xs))) (view_split c p s way k h) ∙ drop_at (view way xs) (view way ys) (length (view way xs)) refl)
+
 -- how much can be left
-before_small : (p : List ℕ) (s k : ℕ) → Order p s → k ≤ s → before p k ≤ 1024 * k
+pub before_small : (p : List ℕ) (s k : ℕ) → Order p s → k ≤ s → before p k ≤ 1024 * k
 unfolding before
 before_small p s zero o h = omega arith
 before_small p s (suc k) o h = let u = o.small k (omega arith) in omega (arith, before_small p s k o (omega arith))

@@ -4,7 +4,7 @@ use Rattle.model.specs.Paper.{Cell}
 use Rattle.model.specs.Rows.{cut, rows}
 use Rattle.model.specs.Values.{way_number}
 use Rattle.model.specs.Walk.{step, rest}
-use Rattle.tree.specs.declared.Spot.{Spot}
+use Rattle.pieces.specs.declared.Spot.{Spot}
 use Rattle.layout.specs.declared.sheet.Row.{Row}
 use Rattle.layout.specs.declared.sheet.Sheet.{Sheet}
 use Rattle.layout.specs.Spots.{left, Inside}

@@ -5,7 +5,7 @@ use Rattle.model.specs.Values.{cell_of, way_number}
 use Rattle.model.specs.declared.Cell.{Cell}
 use Rattle.pieces.specs.Store.{used}
 use Rattle.slots.specs.declared.Cells.{Cells}
-use Rattle.tree.specs.declared.Spot.{Spot}
+use Rattle.pieces.specs.declared.Spot.{Spot}
 use Rattle.layout.specs.declared.seen.Seen.{Seen}
 use Rattle.layout.specs.Spots.{left, Rests}
 

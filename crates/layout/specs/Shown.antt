@@ -3,6 +3,7 @@ use Rattle.std.specs.Prelude.{◌≡◌, ℕ, ◌+◌, ◌<◌, ◌≤◌, List,
 use Rattle.model.specs.Paper.{Cell}
 use Rattle.model.specs.Calls.{lines}
 use Rattle.codec.specs.Bytes.{answer_bytes}
+use Rattle.layout.specs.declared.sheet.Showing.{Showing}
 
 -- the rows are there, and stand in the first r bytes; the bytes after them are as they were
 pub record Shows (rs : List (List Cell)) (first n : ℕ) (out out' : List ℕ) (r : ℕ) : Type 0 where
@@ -15,6 +16,6 @@ pub record ShowsNone (rs : List (List Cell)) (first n : ℕ) (out out' : List �
   pub short : length rs < first + n
   pub same : out' ≡ out
 
-abbrev pub Shown : List (List Cell) → ℕ → ℕ → List ℕ → List ℕ → Option ℕ → Type 0
+abbrev pub Shown : List (List Cell) → ℕ → ℕ → List ℕ → List ℕ → Option Showing → Type 0
 Shown rs first n out out' None = ShowsNone rs first n out out'
-Shown rs first n out out' (Some r) = Shows rs first n out out' r
+Shown rs first n out out' (Some s) = Shows rs first n out out' s.long

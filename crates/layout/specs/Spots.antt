@@ -2,9 +2,9 @@
 use Rattle.std.specs.Prelude.{◌≡◌, ℕ, ◌+◌, ◌-◌, ◌<◌, ◌≤◌, List, drop}
 use Rattle.model.specs.Paper.{Cell, view}
 use Rattle.pieces.specs.Store.{number, used, cells_of, before}
-use Rattle.pieces.specs.declared.text.Text.{Text}
+use Rattle.kept.specs.declared.text.Text.{Text}
 use Rattle.slots.specs.Cells.{all_cells, cells_at}
-use Rattle.tree.specs.declared.Spot.{Spot}
+use Rattle.pieces.specs.declared.Spot.{Spot}
 
 -- the cells that are seen from a spot on
 unfoldable pub left : List ℕ → List ℕ → ℕ → ℕ → ℕ → ℕ → List Cell

@@ -2,8 +2,9 @@
 ghost use Rattle.std.proofs.Props.{props};
 ghost use Rattle.layout.specs.Spots.{Inside, Rests};
 
+use kept::Text;
 use model::{Cell, Way};
-use pieces::{Spot, Text};
+use pieces::Spot;
 use slots::Cells;
 
 /// What is seen of a text from a spot on. Each cell comes with the spot at which it stands.
@@ -12,7 +13,7 @@ use slots::Cells;
 pub struct Seen<'a> {
     text: Text<'a>,
     way: Way,
-    spot: Spot,
+    pub(crate) spot: Spot,
     // What is left of the spot's piece.
     rest: Cells<'a>,
     ghost inside: { Inside text.tables.now text.slots spot.piece spot.offset } by { Prim.hlevel props },
@@ -35,22 +36,37 @@ fn rest_of<'a>(text: &Text<'a>, spot: Spot) -> Cells<'a>
 }
 
 impl<'a> Seen<'a> {
-    ghost use Rattle.std.specs.Prelude.{◌≡◌};
+    ghost use Rattle.std.specs.Prelude.{◌≡◌, drop};
     ghost use Rattle.model.specs.Values.{way_number};
     ghost use Rattle.model.specs.Paper.{view};
-    ghost use Rattle.pieces.specs.Text.{cells_in};
+    ghost use Rattle.kept.specs.Text.{cells_in};
     ghost use Rattle.layout.specs.Seen.{still, FirstSeen};
 
-    /// All that is seen of a text in a way to look.
-    pub fn all(text: &Text<'a>, way: Way) -> Seen<'a>
-        ensures { still result ≡ view (way_number way) (cells_in text.now) }
+    /// What is seen behind the first `place` cells that are seen.
+    pub fn after(text: &Text<'a>, way: Way, place: usize) -> Seen<'a>
+        ensures text { result.text ≡ text.now }
+        ensures way { result.way ≡ way }
+        ensures rest { still result ≡ drop place (view (way_number way) (cells_in text.now)) }
     {
-        // Spots by their two fields, here and below: which cell is meant is seen at once.
-        let start = Spot {
-            piece: 0,
+        if place >= text.seen(way) {
+            // Spots by their two fields, here and below: which cell is meant is seen at once.
+            let end = Spot {
+                piece: text.slots,
+                offset: 0,
+            };
+            return Seen::new(text, way, end);
+        }
+        let at = text.find_seen(way, place);
+        let front = Spot {
+            piece: at.piece,
             offset: 0,
         };
-        Seen::new(text, way, start)
+        let mut seen = Seen::new(text, way, front);
+        // So many cells of the piece are passed over: only the number of them is known.
+        for _i in 0..at.offset {
+            let _ = seen.next();
+        }
+        seen
     }
 
     /// The same from a spot on.

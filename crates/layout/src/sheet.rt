@@ -1,9 +1,12 @@
 // The rows in which a text stands, as it is looked at in one way.
-ghost use Rattle.std.specs.Prelude.{◌≤◌};
+ghost use Rattle.std.specs.Prelude.{◌≡◌, ◌≤◌};
+ghost use Rattle.model.specs.Values.{way_number};
 
 use crate::Seen;
+use breaks::Begun;
+use kept::{Memo, Text};
 use model::Way;
-use pieces::{Spot, Text};
+use pieces::Spot;
 
 // The letter that ends a paragraph, as a word: `printing` has bytes.
 const END: u32 = 10;
@@ -15,6 +18,41 @@ const SPACE: u32 = 32;
 pub struct Row {
     pub long: u32,
     pub next: Spot,
+}
+
+/// Rows that were written as an answer: how many bytes it has, and whether a piece before them had no memo that fits.
+#[derive(Clone, Copy, Debug, PartialEq, Eq, Hash)]
+pub struct Showing {
+    pub long: usize,
+    pub anew: bool,
+}
+
+/// What a piece does to rows, and whether that was found anew.
+#[derive(Clone, Copy, Debug, PartialEq, Eq, Hash)]
+pub struct Effect {
+    pub memo: Memo,
+    pub anew: bool,
+}
+
+/// Where the rows stand at the front of a piece: how many have ended, how many cells are seen before the piece, and the row that has begun there; and
+/// whether a piece before had no memo that fits.
+#[derive(Clone, Copy, Debug, PartialEq, Eq, Hash)]
+pub struct Front {
+    pub rows: u32,
+    pub seen: usize,
+    pub begun: Begun,
+    pub anew: bool,
+}
+
+// The number of a way to look, as a word of a memo.
+fn number(way: Way) -> u32
+    ensures { result ≡ way_number way }
+{
+    match way {
+        Way::Everything => 0,
+        Way::Accepted => 1,
+        Way::Rejected => 2,
+    }
 }
 
 /// A text as it is looked at in one way, in rows of a width.
@@ -29,31 +67,82 @@ pub struct Sheet<'a> {
 }
 
 impl<'a> Sheet<'a> {
-    ghost use Rattle.std.specs.Prelude.{◌≡◌, ◌+◌, ◌*◌, ◌++◌, length, take, drop};
+    ghost use Rattle.std.specs.Prelude.{◌+◌, ◌*◌, ◌<◌, ◌++◌, length, take, drop};
     ghost use Rattle.model.specs.Paper.{view};
     ghost use Rattle.model.specs.Rows.{rows};
-    ghost use Rattle.model.specs.Values.{way_number};
-    ghost use Rattle.pieces.specs.Text.{cells_in};
+    ghost use Rattle.kept.specs.Text.{cells_in};
     ghost use Rattle.layout.specs.Shown.{Shown};
     ghost use Rattle.model.specs.Calls.{lines};
     ghost use Rattle.codec.specs.Bytes.{cells_bytes, answer_bytes};
     ghost use Rattle.codec.specs.Over.{over};
+    ghost use Rattle.layout.specs.Fronts.{IsFront, MemoIs};
     ghost use Rattle.layout.specs.Found.{RowIs, SpotIs, Within, ahead};
 
-    /// Writes `n` rows from row number `first` on as an answer, and says how many bytes it has; or nothing, where these rows are not there.
-    pub fn show(&self, first: u32, n: u32, out: &mut [u8]) -> Option<usize>
+    /// Writes `n` rows from row number `first` on as an answer; or nothing, where these rows are not there.
+    pub fn show(&self, first: u32, n: u32, out: &mut [u8]) -> Option<Showing>
         requires few { n ≤ 64 }
         requires room { 262405 ≤ length out.old }
         ensures { Shown (rows self.now.width (view (way_number self.now.way) (cells_in self.now.text))) first n out.old out.new result }
     {
-        // Spots by their two fields, here and below: which cell is meant is seen at once.
-        let start = Spot {
-            piece: 0,
-            offset: 0,
-        };
-        let from = self.pass_rows(start, first)?;
+        let front = self.front_before(first);
+        let start = Seen::after(&self.text, self.way, front.seen - front.begun.long as usize);
+        let from = self.pass_rows(start.spot, first - front.rows)?;
         let _ = self.pass_rows(from, n)?;
-        Some(self.write_rows(from, n, out))
+        Some(Showing {
+            long: self.write_rows(from, n, out),
+            anew: front.anew,
+        })
+    }
+
+    /// What piece `k` does to rows, where a row has begun before it: as it is kept, or found letter by letter.
+    pub fn effect(&self, k: usize, begun: Begun) -> Effect
+        requires here { k < self.now.text.slots }
+        requires begun { begun.long ≤ self.now.width }
+        ensures { MemoIs self.now k begun result.memo }
+    {
+        let way = number(self.way);
+        let kept = self.text.memo(k);
+        if kept.width == self.width && (kept.way == way && kept.before == begun) {
+            return Effect {
+                memo: kept,
+                anew: false,
+            };
+        }
+        let memo = Memo {
+            width: self.width,
+            way,
+            before: begun,
+            reached: breaks::reach(self.text.words_of(k), self.way, self.width, begun),
+        };
+        Effect { memo, anew: true }
+    }
+
+    // The front of the piece in which row number `first` ends, or of what stands behind all pieces.
+    fn front_before(&self, first: u32) -> Front
+        ensures front { IsFront self.now result }
+        ensures before { result.rows ≤ first }
+    {
+        let mut front = Front {
+            rows: 0,
+            seen: 0,
+            begun: Begun::NONE,
+            anew: false,
+        };
+        // By number, which each question about a piece takes.
+        for k in 0..self.text.slots {
+            let effect = self.effect(k, front.begun);
+            let reached = effect.memo.reached;
+            if front.rows + reached.rows > first {
+                return front;
+            }
+            front = Front {
+                rows: front.rows + reached.rows,
+                seen: front.seen + self.text.seen_in(k, self.way),
+                begun: reached.begun,
+                anew: front.anew || effect.anew,
+            };
+        }
+        front
     }
 
     // A spot and no `Seen` goes in, here and below: a row ends at a spot, and a value that promised `Within` would carry the text once more.

@@ -212,6 +212,7 @@ shifted c p d q e r s i j o n t v w a b ne l m et ev f h both g k =
       target = target;
       source = source;
       others = others;
+      slots = λ x y. two.slots x y ∙ one.slots x y;
       marked = shifted_marked c p e r s i j o n w a b (λ x y. two.slots x y ∙ one.slots x y) (λ x y z u. two.has x y z (one.has x y z u))
           (λ x y. two.has (slot p i) x (omega arith) (both x y)) target source others;
     }

@@ -10,7 +10,7 @@ use Rattle.model.specs.Paper.{Cell}
 use Rattle.slots.specs.Cells.{cells_at}
 use Rattle.pieces.specs.Marks.{Has}
 use Rattle.pieces.specs.Store.{slot, used, piece, strung, cells_of, before, Marked, Order, Frame}
-use Rattle.pieces.specs.Edits.{Recounted, Shifted, Rotated, SameText, Cut}
+use Rattle.pieces.specs.Edits.{Recounted, Shifted, Rotated, SameText, Cut, Moved}
 use Rattle.pieces.proofs.Strung.{strung_same, strung_none, strung_at, strung_split}
 use Rattle.pieces.proofs.Texts.{length_piece}
 use Rattle.pieces.proofs.Sets.{marks_moved}
@@ -170,6 +170,17 @@ module _ (p q r : List ℕ) (s k : ℕ) (o : Order p s) (l : k + 1 < s) (h : Rot
         ]
       ]
 
+  -- what the rotation leaves in place, and what moves up
+  pub rotated_moved : (c : List ℕ) → Moved c p c r s k
+  rotated_moved c =
+      record {
+        slots = slot_below;
+        last = slot_first;
+        slots_up = slot_up;
+        pieces = λ j a. same_piece c r p j j (slot_below j (omega arith)) (used_below j (omega arith));
+        pieces_up = λ j a b. same_piece c r p (j + 1) j (slot_up j a b) (used_up j a b);
+      }
+
   pub rotated_order : Order r s
   rotated_order =
       record {
@@ -312,9 +323,21 @@ cut c p q r d t v s k o n w l a none h g e f i =
     let second = moved_text c r d t s k o n w' l next a' e f in
     let third = recounted d t v s f.order i in
     let same = recounted_used d t v s f.order i in
+    let first_moved = rotated_moved p q r s k w l h g c in
+    let m = w.most in
+    let slots : (j : ℕ) → j < s → slot v j ≡ slot r j = λ j x. i.order j (omega arith) ∙ f.slots j x in
+    let others : (j : ℕ) → j < s → j ≢ k → j ≢ k + 1 → piece d v j ≡ piece c r j =
+    λ j x y z. same_piece d v t j j (i.order j (omega arith)) (same j x) ∙ f.others j x z y in
     record {
       same = same_both c p c r d v s first (same_both c r d t d v s second third);
       place = before_same v t k (λ j m. same j (omega arith)) ∙ moved_before c r d t s k o n w' l next a' e f ∙ rotated_before p q r s k w l h g none;
       here = same k (omega arith) ∙ moved_used_here c r d t s k o n w' l next a' e f;
       next = same (k + 1) l ∙ moved_used_next c r d t s k o n w' l next a' e f ∙ ap (λ m. m - o) here;
+      moved = record {
+        slots = λ j x. slots j (omega arith) ∙ first_moved.slots j x;
+        last = slots (k + 1) l ∙ first_moved.last;
+        slots_up = λ j x y. slots (j + 1) y ∙ first_moved.slots_up j x y;
+        pieces = λ j x. others j (omega arith) (omega arith) (omega arith) ∙ first_moved.pieces j x;
+        pieces_up = λ j x y. others (j + 1) y (omega arith) (omega arith) ∙ first_moved.pieces_up j x y;
+      };
     }

@@ -6,7 +6,6 @@ pub mod Cleared
 pub mod Change
 mod Leaves
 mod Cells
-mod Cuts
-mod Packs
+pub mod Cuts
+pub mod Packs
 pub mod Edit
-pub mod Rewriting

@@ -43,6 +43,7 @@ pub record Shifted (c p d q : List ℕ) (s i j o n : ℕ) : Type 0 where
   pub target : piece d q i ≡ piece c p i ++ take n (drop o (piece c p j))
   pub source : piece d q j ≡ replaced (piece c p j) o n []
   pub others : (k : ℕ) → k < s → k ≢ i → k ≢ j → piece d q k ≡ piece c p k
+  pub slots : (k : ℕ) → k < s → slot q k ≡ slot p k
   pub marked : Marked c p s → Marked d q s
 
 -- from p to q the word at `to` moved to `from`, and those between moved up by one
@@ -60,12 +61,22 @@ pub record SameText (c p d q : List ℕ) (s : ℕ) : Type 0 where
   pub text : cells_of d q s ≡ cells_of c p s
   pub marked : Marked c p s → Marked d q s
 
+-- the pieces up to k and their slots stayed where they are, but for the cells of piece k; the last slot is that of piece k + 1 now; and those after piece k
+-- moved up by one
+pub record Moved (c p d q : List ℕ) (s k : ℕ) : Type 0 where
+  pub slots : (j : ℕ) → j ≤ k → slot q j ≡ slot p j
+  pub last : slot q (k + 1) ≡ slot p (s - 1)
+  pub slots_up : (j : ℕ) → k < j → j + 1 < s → slot q (j + 1) ≡ slot p j
+  pub pieces : (j : ℕ) → j < k → piece d q j ≡ piece c p j
+  pub pieces_up : (j : ℕ) → k < j → j + 1 < s → piece d q (j + 1) ≡ piece c p j
+
 -- piece k was cut at its cell o, and what follows is piece k + 1
 pub record Cut (c p d q : List ℕ) (s k o : ℕ) : Type 0 where
   pub same : SameText c p d q s
   pub place : before q k ≡ before p k
   pub here : used q k ≡ o
   pub next : used q (k + 1) ≡ used p k - o
+  pub moved : Moved c p d q s k
 
 -- the pieces before i are well filled, and those between i and j are empty
 pub record Packed (p : List ℕ) (i j : ℕ) : Type 0 where

@@ -1,4 +1,3 @@
 pub mod Marks
 pub mod Store
 pub mod Edits
-pub mod Text

@@ -87,12 +87,6 @@ pub record Frame (c p d q : List ℕ) (s : ℕ) : Type 0 where
   -- words between the order and the tree
   pub spare : (k : ℕ) → s ≤ k → k < 2048 → slice_index q k ≡ slice_index p k
 
--- a change of a store, after which the text is xs
-pub record Edited (c p d q : List ℕ) (s : ℕ) (xs : List Cell) : Type 0 where
-  pub store : Store d q s
-  pub frame : Frame c p d q s
-  pub text : cells_of d q s ≡ xs
-
 -- cell `place` of the text is cell o of piece k
 pub record Located (p : List ℕ) (s place k o : ℕ) : Type 0 where
   pub here : k < s

@@ -1,19 +1,19 @@
 // A paper's cells kept in pieces, over two lent slices of words: `c` has `s` slots of 1,024 cells, and `p` says in which order the slots stand (words 0
 // to 2047), how many cells each has (from word 2048 on, a tree of counts with 2,048 leaves) and which marks they may have (from word 6144 on, two words
 // a slot). Every slot is a piece of the text, an unused one has no cells. Words of `c` past the slots and words of `p` past 10240 are never touched.
+// These are functions of the slices: `kept` makes one value of them, with tables of its own that follow after each.
 #![tactic(auto)]
 
-ghost use Rattle.std.specs.Prelude.{◌≡◌, ℕ, ◌+◌, ◌-◌, ◌*◌, ◌/◌, ◌<◌, ◌≤◌, false, ◌≢◌, List, [], ◌++◌, length, take, drop};
+ghost use Rattle.std.specs.Prelude.{◌≡◌, ℕ, ◌+◌, ◌-◌, ◌*◌, ◌/◌, ◌<◌, ◌≤◌, false, ◌≢◌, List, [], ◌++◌, ◌∷◌, length, take, drop};
 ghost use Rattle.std.specs.List.{range_with_len, AllByRecursion};
 ghost use Rattle.pieces.specs.Store.{used as uses, slot, number, piece, cells_of, before, cleared_cells, cleared_words, Located, Order, Table, Store};
-ghost use Rattle.pieces.specs.Marks.{bits, has, noted, noted_cells, two_bits as two_bits_set, with_set, Beside, Grown, Has, Joined, Lacks, Marks};
+ghost use Rattle.model.specs.Values.{cell_of};
+ghost use Rattle.pieces.specs.Marks.{bits, has, noted, noted_cells, two_bits as two_bits_set, with_set, Beside, Grown, Has, Joined, Lacks};
 ghost use Rattle.pieces.specs.Edits.{replaced, Changed, Cut, Filled, Packed, Recounted, Resized, Rotated, SameText, Shifted};
 ghost use Rattle.slots.specs.Cells.{all_cells};
 ghost use Rattle.tree.specs.Tree.{Sums};
 
-mod text;
-
-pub use text::{Text, TextMut};
+use model::Cell;
 pub use tree::Spot;
 
 // How many cells a slot takes.
@@ -54,7 +54,7 @@ pub fn used(p: &[u32], k: usize) -> usize
 }
 
 // The number of cell `j` of piece `k`.
-// By a piece and a place in it, here and in `Text`: half of the callers have no spot, and ask for the front of a piece or for the place behind its cells.
+// By a piece and a place in it: half of the callers have no spot, and ask for the front of a piece or for the place behind its cells.
 // `s`, here and below, is for the contract alone: it says of how many slots the order is.
 pub fn number_of(p: &[u32], s: usize, k: usize, j: usize) -> usize
     requires order { Order p.now s }
@@ -65,7 +65,7 @@ pub fn number_of(p: &[u32], s: usize, k: usize, j: usize) -> usize
     CELLS * p[k] as usize + j
 }
 
-// How many cells there are. This and the next three ask for the tables alone: `Text` has the first three for a whole text.
+// How many cells there are. This and the next two ask for the tables alone.
 pub fn count(p: &[u32], s: usize) -> usize
     requires { Table p.now s }
     ensures { result ≡ before p.now s }
@@ -183,8 +183,6 @@ fn enumerate(w: &mut [u32], n: usize)
         *word = i as u32;
     }
 }
-
-// From here to `pour` functions take the slices of a text apart, as they work while what always holds of a text does not.
 
 // Piece `k` gets the length `n`. The counts above it are not right afterwards.
 fn set_length(p: &mut [u32], k: usize, n: usize)
@@ -306,15 +304,14 @@ fn append_cells(c: &mut [u32], p: &[u32], s: usize, i: usize, from: Spot, n: usi
     );
 }
 
-// Puts the cells whose words `new` has in at a spot. They fit the slot there.
-fn insert_here(c: &mut [u32], p: &mut [u32], s: usize, at: Spot, new: &[u32])
+/// Puts the cells whose words `new` has in at a spot. They fit the slot there.
+pub fn insert_here(c: &mut [u32], p: &mut [u32], s: usize, at: Spot, new: &[u32])
     requires store { Store c.old p.old s }
     requires here { at.piece < s }
     requires within { at.offset ≤ uses p.old at.piece }
     requires fits { uses p.old at.piece + length new.now / 4 ≤ 1024 }
     ensures changed { Changed c.old p.old c.new p.new s at.piece (replaced (piece c.old p.old at.piece) at.offset 0 (all_cells new.now)) }
-    ensures sums { Sums (drop 2048 p.new) }
-    ensures marks { AllByRecursion (Marks p.new (slot p.new at.piece)) (all_cells new.now) }
+    ensures store { Store c.new p.new s }
 {
     insert_cells(c, p, s, at, new);
     let more = used(p, at.piece) + new.len() / 4;
@@ -323,17 +320,32 @@ fn insert_here(c: &mut [u32], p: &mut [u32], s: usize, at: Spot, new: &[u32])
     note_cells(p, i, new);
 }
 
-// Takes `n` cells out of a piece, from a spot of it on.
-fn remove_here(c: &mut [u32], p: &mut [u32], s: usize, at: Spot, n: usize)
+/// Takes `n` cells out of a piece, from a spot of it on.
+pub fn remove_here(c: &mut [u32], p: &mut [u32], s: usize, at: Spot, n: usize)
     requires store { Store c.old p.old s }
     requires here { at.piece < s }
     requires within { at.offset + n ≤ uses p.old at.piece }
     ensures changed { Changed c.old p.old c.new p.new s at.piece (replaced (piece c.old p.old at.piece) at.offset n []) }
-    ensures sums { Sums (drop 2048 p.new) }
+    ensures store { Store c.new p.new s }
 {
     remove_cells(c, p, s, at, n);
     let left = used(p, at.piece) - n;
     resize(p, at.piece, left);
+}
+
+/// Writes the cell at a spot.
+pub fn write_here(c: &mut [u32], p: &mut [u32], s: usize, at: Spot, cell: Cell)
+    requires store { Store c.old p.old s }
+    requires here { at.piece < s }
+    requires within { at.offset < uses p.old at.piece }
+    ensures changed { Changed c.old p.old c.new p.new s at.piece (replaced (piece c.old p.old at.piece) at.offset 1 (cell_of cell ∷ [])) }
+    ensures store { Store c.new p.new s }
+{
+    let number = number_of(p, s, at.piece, at.offset);
+    let i = p[at.piece] as usize;
+    note(p, i, cell.put_in);
+    note(p, i, cell.struck);
+    slots::write(c, number, cell);
 }
 
 // Takes out `n` cells, from the spot `from` on, and puts them behind the cells of piece `i`. The counts are not right afterwards.
@@ -359,7 +371,7 @@ fn shift(c: &mut [u32], p: &mut [u32], s: usize, i: usize, from: Spot, n: usize)
 }
 
 // The word at `to` moves down to `from`, and those between move up by one.
-fn rotate(p: &mut [u32], from: usize, to: usize)
+pub fn rotate(p: &mut [u32], from: usize, to: usize)
     requires order { from ≤ to }
     requires within { to < length p.old }
     ensures { Rotated p.old p.new from to }
@@ -367,14 +379,14 @@ fn rotate(p: &mut [u32], from: usize, to: usize)
     p[from..to + 1].rotate_right(1);
 }
 
-// Cuts a piece at a spot: the last piece, which is empty, moves behind it and takes what follows.
-fn split(c: &mut [u32], p: &mut [u32], s: usize, at: Spot)
+/// Cuts a piece at a spot: the last piece, which is empty, moves behind it and takes what follows.
+pub fn split(c: &mut [u32], p: &mut [u32], s: usize, at: Spot)
     requires store { Store c.old p.old s }
     requires here { at.piece + 1 < s }
     requires within { at.offset ≤ uses p.old at.piece }
     requires spare { uses p.old (s - 1) ≡ 0 }
     ensures cut { Cut c.old p.old c.new p.new s at.piece at.offset }
-    ensures sums { Sums (drop 2048 p.new) }
+    ensures store { Store c.new p.new s }
 {
     rotate(p, at.piece + 1, s - 1);
     rotate(p, LEAVES + at.piece + 1, LEAVES + s - 1);
@@ -383,12 +395,12 @@ fn split(c: &mut [u32], p: &mut [u32], s: usize, at: Spot)
     recount(p, s);
 }
 
-// Packs the cells together: fills each piece up to 768 cells from those behind it. The last piece is empty afterwards, unless there are too many cells.
-// A piece takes all marks of each piece that it takes cells from, so the sets are made anew at the end: else they would fill up, and no piece be passed over.
-fn repack(c: &mut [u32], p: &mut [u32], s: usize)
+/// Packs the cells together: fills each piece up to 768 cells from those behind it. The last piece is empty afterwards, unless there are too many cells.
+/// A piece takes all marks of each piece that it takes cells from, so the sets are made anew at the end: else they would fill up, and no piece be passed over.
+pub fn repack(c: &mut [u32], p: &mut [u32], s: usize)
     requires { Store c.old p.old s }
     ensures same { SameText c.old p.old c.new p.new s }
-    ensures sums { Sums (drop 2048 p.new) }
+    ensures store { Store c.new p.new s }
     ensures spare { before p.old s < 768 * (s - 1) → uses p.new (s - 1) ≡ 0 }
 {
     let mut i = 0;

@@ -10,15 +10,15 @@ ghost use Rattle.model.specs.Calls.{strikes, styles};
 ghost use Rattle.model.specs.Paper.{Change, cells_written, touched as touches};
 ghost use Rattle.model.specs.Values.{cell_of};
 ghost use Rattle.pieces.specs.Store.{piece};
-ghost use Rattle.pieces.specs.Text.{cells_in};
+ghost use Rattle.kept.specs.Text.{cells_in};
 ghost use Rattle.recorder.specs.Records.{Marked, Ready, Records, Seals, Stretched, decided, written};
 ghost use Rattle.slots.specs.Cells.{all_cells};
 
 use changes::Row;
 use history::entry::{self, CELL, HEAD, Head, Kind, MARK};
 use history::log;
+use kept::Text;
 use model::{Cell, Verdict};
-use pieces::Text;
 
 // Writes the head and the size of an entry at `at`, as the log tells the place, around its letters, cells or marks. It becomes the latest of what can be undone.
 fn seal(u: &mut [u32], at: usize, head: Head)

@@ -1,5 +1,3 @@
-mod Rewriting
 mod Runs
-mod Putting
 mod Marking
 mod Entries

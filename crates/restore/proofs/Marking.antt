@@ -3,14 +3,13 @@ use Rattle.std.proofs.Common.{◌≡◌, ℕ, zero, suc, ◌+◌, ◌-◌, ◌*�
 use Rattle.std.proofs.lemmas.List.{length-append, length-set, length-take, length-take-le, length-drop, get_or-drop, get_or-take, get_or_append_left, drop_at, drop-take}
 use Rattle.model.specs.Paper.{pick, Cell}
 use Rattle.slots.specs.Cells.{all_cells, cell_at, cells_at}
-use Rattle.pieces.specs.Text.{Rewrites, cells_of_mut}
-use Rattle.pieces.specs.declared.text.TextMut.{TextMut}
+use Rattle.kept.specs.Text.{Rewrites, cells_of_mut}
+use Rattle.kept.specs.declared.text.TextMut.{TextMut}
 use Rattle.history.specs.Entry.{Mark, mark_back, marks_back, Placed}
 use Rattle.history.specs.Words.{marks_read}
 use Rattle.model.specs.declared.verdict.Verdict.{Verdict}
 use Rattle.restore.specs.Back.{goes, first_mark, marks_in, CanMark}
-use Rattle.pieces.proofs.Rewriting.{rewrites_both, rewrites_text}
-use Rattle.restore.proofs.Rewriting.{rewrites_as}
+use Rattle.kept.proofs.Rewriting.{rewrites_as, rewrites_both, rewrites_none, rewrites_text}
 
 -- the cell of a mark stands behind its place
 pub first_cell : (ws : List ℕ) → cell_at (drop 1 ws) 0 ≡ (first_mark ws).cell
@@ -111,6 +110,9 @@ pub record Going (went : Cell → Bool) (ws rest : List ℕ) (old new : TextMut)
   pub rewrites : Rewrites old new (cells_of_mut new)
   pub can : CanMark went (marks_in rest) (cells_of_mut new) new.slots
   pub same : marks_back went (marks_in rest) (cells_of_mut new) ≡ marks_back went (marks_in ws) (cells_of_mut old)
+
+pub going_none : (went : Cell → Bool) (ws rest : List ℕ) (t : TextMut) → rest ≡ ws → CanMark went (marks_in ws) (cells_of_mut t) t.slots → Going went ws rest t t
+going_none went ws rest t e can = record { rewrites = rewrites_none t (cells_of_mut t) refl; can = rw e can; same = rw e refl }
 
 module _ (went : Cell → Bool) (ws rest part left : List ℕ) (old new : TextMut) (e : rest ≡ part ++ left) (l : length part ≡ 5) (h : Going went ws rest old new) where
   next : CanMark went (first_mark part ∷ marks_in left) (cells_of_mut new) new.slots

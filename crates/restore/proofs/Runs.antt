@@ -69,3 +69,7 @@ put_more t t' old new i at l e is =
     let x = append_assoc (take i t) old (new ++ drop i t) in
     let y = append_assoc old new (drop i t) in
     cc
+
+-- a text from which cells were taken out
+pub length_removed : (t u : List Cell) (i n : ℕ) → i + n ≤ length t → u ≡ take i t ++ drop (i + n) t → length u + n ≡ length t
+length_removed t u i n l e = ap (λ xs. length xs + n) e ∙ simp (length-append, length-take-le i t (omega arith), length-drop) (omega arith)

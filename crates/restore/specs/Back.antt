@@ -3,8 +3,8 @@ use Rattle.std.specs.Prelude.{ℕ, ◌+◌, ◌-◌, ◌*◌, ◌/◌, ◌≤◌
 use Rattle.model.specs.Paper.{Cell, Change}
 use Rattle.model.specs.declared.verdict.Verdict.{Verdict}
 use Rattle.model.specs.declared.verdict.Verdict.TheVariants.{Accepted, Rejected}
-use Rattle.pieces.specs.Text.{Rewrites, cells_of_mut}
-use Rattle.pieces.specs.declared.text.TextMut.{TextMut}
+use Rattle.kept.specs.Text.{Rewrites, cells_of_mut}
+use Rattle.kept.specs.declared.text.TextMut.{TextMut}
 use Rattle.history.specs.Entry.{Mark, Entry, goes_accepted, goes_rejected, run_back, marks_back, Placed, UndoCan, undo_of}
 use Rattle.history.specs.Words.{cells_read, marks_read, entry_size, EntryAt}
 use Rattle.history.specs.declared.entry.Head.{Head}

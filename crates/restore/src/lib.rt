@@ -1,34 +1,17 @@
 // Takes back, on a text, what an entry of the undo log says: `u` has the log's words and is only read.
 #![tactic(auto)]
 
-ghost use Rattle.std.specs.Prelude.{◌≡◌, ◌+◌, ◌-◌, ◌*◌, ◌/◌, ◌≤◌, ◌++◌, length, take, drop};
+ghost use Rattle.std.specs.Prelude.{◌≡◌, ◌+◌, ◌-◌, ◌*◌, ◌/◌, ◌≤◌, length, drop};
 ghost use Rattle.model.specs.Paper.{pick};
 ghost use Rattle.model.specs.Values.{cell_of};
 ghost use Rattle.slots.specs.Cells.{all_cells};
-ghost use Rattle.pieces.specs.Text.{Rewrites, cells_of_mut};
+ghost use Rattle.kept.specs.Text.{Rewrites, cells_of_mut};
 ghost use Rattle.history.specs.Entry.{run_back, mark_back, marks_back};
 ghost use Rattle.restore.specs.Back.{goes, first_mark, marks_in, taken_back, CanMark, CanTakeBack, Undoable, Undone};
 
 use history::entry::{self, CELL, HEAD, Head, Kind, MARK};
+use kept::TextMut;
 use model::{Cell, Verdict};
-use pieces::TextMut;
-
-// How many words of cells the text takes at once.
-const MOST: usize = 4096;
-
-// Puts the cells whose words `old` has into the text at `place`.
-fn put_back(text: &mut TextMut, place: usize, old: &[u32])
-    requires place { place ≤ length (cells_of_mut text.old) }
-    requires fits { length (cells_of_mut text.old) + length old.now / 4 ≤ 768 * (text.old.slots - 1) }
-    ensures { Rewrites text.old text.new (take place (cells_of_mut text.old) ++ (all_cells old.now ++ drop place (cells_of_mut text.old))) }
-{
-    // The place by hand: each part goes behind the one before it, and the last may be shorter.
-    let mut at = place;
-    for part in old.chunks(MOST) {
-        text.insert(at, part);
-        at += part.len() / CELL;
-    }
-}
 
 // In place of the `standing` cells from `place` on come those whose words `old` has.
 fn run(text: &mut TextMut, place: usize, standing: usize, old: &[u32])
@@ -37,7 +20,7 @@ fn run(text: &mut TextMut, place: usize, standing: usize, old: &[u32])
     ensures { Rewrites text.old text.new (run_back place standing (all_cells old.now) (cells_of_mut text.old)) }
 {
     text.remove(place, standing);
-    put_back(text, place, old);
+    text.insert(place, old);
 }
 
 // Whether the cell went when the change was decided. One of its two marks counts; `u64`, as a mark may be one more than any change.

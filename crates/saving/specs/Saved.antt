@@ -4,8 +4,8 @@ use Rattle.model.specs.Paper.{Change, changes_written, written}
 use Rattle.model.specs.Calls.{numbers}
 use Rattle.changes.specs.Rows.{changes_in}
 use Rattle.changes.specs.declared.Row.{Row}
-use Rattle.pieces.specs.Text.{cells_in}
-use Rattle.pieces.specs.declared.text.Text.{Text}
+use Rattle.kept.specs.Text.{cells_in}
+use Rattle.kept.specs.declared.text.Text.{Text}
 use Rattle.codec.specs.Bytes.{answer_bytes}
 
 -- the numbers of a file before those of the cells

@@ -6,13 +6,13 @@ ghost use Rattle.std.specs.Prelude.{◌≡◌, ◌+◌, ◌-◌, ◌*◌, ◌≤
 ghost use Rattle.model.specs.Paper.{cells_written};
 ghost use Rattle.changes.specs.Rows.{changes_in};
 ghost use Rattle.pieces.specs.Store.{before};
-ghost use Rattle.pieces.specs.Text.{cells_in};
+ghost use Rattle.kept.specs.Text.{cells_in};
 ghost use Rattle.codec.specs.Bytes.{words_bytes};
 ghost use Rattle.codec.specs.Over.{over};
 ghost use Rattle.saving.specs.Saved.{head, file, Saved};
 
 use changes::Row;
-use pieces::Text;
+use kept::Text;
 
 // Writes words as numbers. The answer is the place after them, here and below.
 // A place beside the bytes, here and below, for the reason in `codec`: a value of both would have to promise in each contract that they are the same bytes.

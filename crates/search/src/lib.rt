@@ -5,17 +5,17 @@ ghost use Rattle.std.specs.Prelude.{◌≡◌, ◌+◌, ◌≤◌, MatchOption, 
 ghost use Rattle.model.specs.Paper.{view};
 ghost use Rattle.model.specs.Rows.{find_in};
 ghost use Rattle.model.specs.Values.{way_number};
-ghost use Rattle.pieces.specs.Text.{cells_in};
+ghost use Rattle.kept.specs.Text.{cells_in};
 
+use kept::Text;
 use layout::Seen;
 use model::Way;
-use pieces::Text;
 
 // How many letters are sought at most.
 const MOST: usize = 256;
 
 // The first place, at or after `from`, at which the letters stand among the cells that are seen, if they do. Cells that are not seen are passed over.
-// Each cell is read once, and over all of them the steps back in `letters` are no more than the steps on.
+// Each cell is read once at most, and over all of them the steps back in `letters` are no more than the steps on.
 pub fn find(text: &Text, way: Way, from: u32, letters: &[u8]) -> Option<u32>
     requires some { 1 ≤ length letters.now }
     requires most { length letters.now ≤ 256 }
@@ -25,10 +25,11 @@ pub fn find(text: &Text, way: Way, from: u32, letters: &[u8]) -> Option<u32>
     let mut table = [0; MOST];
     finder::prepare(letters, &mut table);
     let mut matched = 0;
-    for (place, (_, x)) in Seen::all(text, way).enumerate().skip(from as usize) {
+    let from = from as usize;
+    for (i, (_, x)) in Seen::after(text, way, from).enumerate() {
         matched = finder::step(letters, &table, matched, x.letter);
         if matched == letters.len() {
-            return Some((place + 1 - matched) as u32);
+            return Some((from + i + 1 - matched) as u32);
         }
     }
     None

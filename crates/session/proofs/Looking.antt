@@ -3,21 +3,21 @@ use Rattle.std.proofs.Common.{◌≡◌, ℕ, suc, ◌+◌, ◌<◌, ◌≤◌, 
 use borrow.Author.Tests.{lt-leb}
 use Rattle.model.specs.Paper.{pick, Cell, seen, view, written}
 use Rattle.model.specs.Rows.{rows, begins, find_in}
-use Rattle.model.specs.Calls.{count, show, find, save, number, lines, numbers, refused, call_number, good_letters, good_fields, turned_by, writes, rewritten, moved, fits, told, place}
+use Rattle.model.specs.Calls.{count, show, find, save, number, lines, numbers, refused, call_number, good_letters, good_fields, turned, turned_by, writes, rewritten, moved, fits, told, place}
 use Rattle.changes.proofs.Steps.{length_changes}
 use Rattle.session.specs.Memory.{limits_of, paper_of, Held}
-use Rattle.session.specs.Acts.{desk_of, Acted}
+use Rattle.session.specs.Acts.{desk_of, Acted, Wrote}
 use Rattle.session.proofs.Acting.{turned_first, turned_not, refuses, looked}
 use Rattle.session.specs.Contract.{Handled}
-use Rattle.session.specs.Desks.{Ended}
+use Rattle.session.specs.Desks.{Ended, Said}
 use Rattle.session.specs.declared.refusal.Refusal.{Refusal}
-use Rattle.session.specs.declared.refusal.Refusal.TheVariants.{NoSuchNumbers, NoSuchRows}
+use Rattle.session.specs.declared.refusal.Refusal.TheVariants.{NoSuchNumbers}
 use Rattle.std.specs.Prelude.{ok_or}
-use Rattle.layout.specs.Shown.{Shown}
+use Rattle.layout.specs.Shown.{Shows, ShowsNone}
 use Rattle.saving.specs.Saved.{Saved}
 use Rattle.codec.specs.Bytes.{answer_bytes}
 use Rattle.session.proofs.Ranges.{both_true}
-use Rattle.session.proofs.Serving.{looked_handled}
+use Rattle.session.proofs.Serving.{kept_handled, looked_handled}
 use Rattle.session.proofs.Saying.{said}
 
 pub length_view : (k : ℕ) (xs : List Cell) → length (view k xs) ≤ length xs
@@ -46,11 +46,15 @@ module _ (cs ps : List ℕ) (k w r n : ℕ) (held : Held cs ps) (good : good_fie
   abbrev all : List (List Cell)
   all = rows w (view k (paper_of cs ps).cells)
 
+  goes : r + n ≤ length all → turned (limits_of ps) (desk_of cs ps) (show k w r n) ≡ 0
+  unfolding call_number turned_by writes rewritten
+  goes h =
+      let there : turned_by (desk_of cs ps) (show k w r n) ≡ 0 = rw (le-leb (r + n) (length all) h) refl in
+      turned_not (limits_of ps) (desk_of cs ps) (show k w r n) good there (fits_now cs ps held)
+
   shown : r + n ≤ length all → Acted cs ps (show k w r n) cs ps (lines (take n (drop r all)))
   unfolding call_number turned_by writes rewritten moved told
-  shown h =
-      let there : turned_by (desk_of cs ps) (show k w r n) ≡ 0 = rw (le-leb (r + n) (length all) h) refl in
-      looked cs ps (show k w r n) held (turned_not (limits_of ps) (desk_of cs ps) (show k w r n) good there (fits_now cs ps held)) refl refl
+  shown h = looked cs ps (show k w r n) held (goes h) refl refl
 
   not_shown : length all < r + n → Acted cs ps (show k w r n) cs ps (refused 8 2)
   unfolding call_number turned_by place
@@ -67,15 +71,19 @@ module _ (cs ps : List ℕ) (k w r n : ℕ) (held : Held cs ps) (good : good_fie
       let d = both_true (leb 1 n) (leb n 64) b.1 in
       (ltb-true k 3 a.0, leb-true 1 w c.0, leb-true w 256 c.1, leb-true n 64 d.1)
 
-  -- what the rows that were shown, or were not there, are
-  pub show_ended : (us out out' : List ℕ) {e : Result ℕ Refusal} (s : Option ℕ) → e ≡ ok_or s NoSuchRows → length out' ≡ length out → Shown all r n out out' s →
-      Ended cs ps us (show k w r n) cs ps us out out' e
+  -- rows that were shown, and it was kept how they were found
+  pub show_done : (us out out' : List ℕ) {cs' ps' : List ℕ} (long : ℕ) → Shows all r n out out' long → Wrote cs ps cs' ps' (paper_of cs ps) → length out' ≡ length out →
+      Said cs ps us (show k w r n) cs' ps' us out out' long
   unfolding call_number
-  show_ended us out out' (Some long) is fit s =
-      let a : Handled cs ps us (show k w r n) cs ps us (answer_bytes (lines (take n (drop r all)))) =
-      looked_handled cs ps us (show k w r n) refl (lines (take n (drop r all))) (omega arith) (shown s.there) in
-      rw is (said (answer_bytes (lines (take n (drop r all)))) a s.bytes s.long fit)
-  show_ended us out out' None is fit s = rw is (looked_handled cs ps us (show k w r n) refl (refused 8 2) (omega arith) (not_shown s.short), s.same)
+  show_done us out out' {cs'} {ps'} long s wrote fit =
+      let a : Handled cs ps us (show k w r n) cs' ps' us (answer_bytes (lines (take n (drop r all)))) =
+      kept_handled cs ps us (show k w r n) refl (lines (take n (drop r all))) (omega arith) (goes s.there) (shown s.there) wrote in
+      said (answer_bytes (lines (take n (drop r all)))) a s.bytes s.long fit
+
+  -- rows that are not all there
+  pub show_refused : (us out out' : List ℕ) → ShowsNone all r n out out' → Handled cs ps us (show k w r n) cs ps us (answer_bytes (refused 8 2)) × (out' ≡ out)
+  unfolding call_number
+  show_refused us out out' s = (looked_handled cs ps us (show k w r n) refl (refused 8 2) (omega arith) (not_shown s.short), s.same)
 
 -- letters that are found, or not
 module _ (cs ps : List ℕ) (k i : ℕ) (ls : List ℕ) (held : Held cs ps) (good : good_fields (find k i ls) ≡ true) where

@@ -2,6 +2,7 @@
 use Rattle.std.proofs.Common.{◌≡◌, ℕ, suc, ◌+◌, ◌-◌, ◌*◌, ◌≤◌, List, [], ◌∷◌, ◌++◌, length, get_or, take, drop, set, replicate, sym, refl, ap, ◌∙◌, subst, arith}
 use borrow.Rule.Slice.PartMut.{put_mid}
 use Rattle.std.specs.List.{range_with_len}
+use Rattle.std.proofs.lemmas.List.FromFn.{length-range_with_len}
 use Rattle.std.proofs.lemmas.List.{length-append, length-replicate, length-drop, take_at, drop_at, append_assoc, drop_all, drop-drop, append-nil}
 use Rattle.model.specs.Paper.{Paper}
 use Rattle.model.specs.Calls.{new_desk}
@@ -9,9 +10,12 @@ use Rattle.changes.specs.Row.{changes_from}
 use Rattle.history.specs.Steps.{StandsFor}
 use Rattle.history.specs.Log.{Log}
 use Rattle.history.proofs.Stepping.{opens}
-use Rattle.pieces.specs.Store.{Store, cells_of, cleared_words}
-use Rattle.pieces.proofs.Cleared.{cleared_long}
+use Rattle.kept.specs.Kept.{Kept, cleared_tables}
+use Rattle.pieces.specs.Store.{cells_of}
 use Rattle.session.specs.Memory.{slots_for, cells_words, pieces_words, limits_of, tables, paper_of, Stands, opened_pieces}
+
+length_cleared : (p : List ℕ) (s : ℕ) → s ≤ 2048 → 34816 ≤ length p → length (cleared_tables p s) ≡ length p
+length_cleared p s m w = simp (length-append, length-range_with_len, length-replicate, length-drop) (omega arith)
 
 -- the limits and no change
 abbrev pub head : ℕ → ℕ → ℕ → List ℕ
@@ -30,7 +34,7 @@ begun n c u p q e =
 
 module _ (n c u : ℕ) (ps begun-words after-tables : List ℕ)
     (begins : begun-words ≡ head n c u ++ drop (16 + 2 * c) ps)
-    (clears : after-tables ≡ cleared_words (drop (16 + 2 * c) begun-words) (slots_for n)) where
+    (clears : after-tables ≡ cleared_tables (drop (16 + 2 * c) begun-words) (slots_for n)) where
   abbrev words : List ℕ
   words = put_mid (16 + 2 * c) (length begun-words - (16 + 2 * c)) begun-words after-tables
 
@@ -51,13 +55,13 @@ module _ (n c u : ℕ) (ps begun-words after-tables : List ℕ)
       let s : ℕ = slots_for n in
       let h = length_head n c u in
       let d : drop (16 + 2 * c) begun-words ≡ drop (16 + 2 * c) ps = ap (drop (16 + 2 * c)) begins ∙ drop_at (head n c u) (drop (16 + 2 * c) ps) (16 + 2 * c) h in
-      let k : 16 + 2 * c + 10240 ≡ 10256 + 2 * c = omega arith in
-      let dd : drop 10240 (drop (16 + 2 * c) ps) ≡ drop (10256 + 2 * c) ps = drop-drop 10240 (16 + 2 * c) ps ∙ ap (λ (m : ℕ). drop m ps) k in
-      let f : drop 10240 (drop (16 + 2 * c) begun-words) ≡ drop (10256 + 2 * c) ps = ap (drop 10240) d ∙ dd in
-      let t : after-tables ≡ range_with_len 0 s ++ (replicate (10240 - s) 0 ++ drop (10256 + 2 * c) ps) =
-      clears ∙ ap (λ (xs : List ℕ). range_with_len 0 s ++ (replicate (10240 - s) 0 ++ xs)) f in
-      let a = append_assoc (range_with_len 0 s) (replicate (10240 - s) 0) (drop (10256 + 2 * c) ps) in
-      let b = append_assoc (head n c u) (range_with_len 0 s ++ replicate (10240 - s) 0) (drop (10256 + 2 * c) ps) in
+      let k : 16 + 2 * c + 34816 ≡ 34832 + 2 * c = omega arith in
+      let dd : drop 34816 (drop (16 + 2 * c) ps) ≡ drop (34832 + 2 * c) ps = drop-drop 34816 (16 + 2 * c) ps ∙ ap (λ (m : ℕ). drop m ps) k in
+      let f : drop 34816 (drop (16 + 2 * c) begun-words) ≡ drop (34832 + 2 * c) ps = ap (drop 34816) d ∙ dd in
+      let t : after-tables ≡ range_with_len 0 s ++ (replicate (34816 - s) 0 ++ drop (34832 + 2 * c) ps) =
+      clears ∙ ap (λ (xs : List ℕ). range_with_len 0 s ++ (replicate (34816 - s) 0 ++ xs)) f in
+      let a = append_assoc (range_with_len 0 s) (replicate (34816 - s) 0) (drop (34832 + 2 * c) ps) in
+      let b = append_assoc (head n c u) (range_with_len 0 s ++ replicate (34816 - s) 0) (drop (34832 + 2 * c) ps) in
       words_are ∙ (ap (λ (xs : List ℕ). head n c u ++ xs) (t ∙ sym a) ∙ sym b)
 
   cleared_length : n ≤ 1000000 → pieces_words c ≤ length ps → length after-tables ≡ length ps - (16 + 2 * c)
@@ -65,10 +69,10 @@ module _ (n c u : ℕ) (ps begun-words after-tables : List ℕ)
       let h = length_head n c u in
       let d : drop (16 + 2 * c) begun-words ≡ drop (16 + 2 * c) ps = ap (drop (16 + 2 * c)) begins ∙ drop_at (head n c u) (drop (16 + 2 * c) ps) (16 + 2 * c) h in
       let l : length (drop (16 + 2 * c) begun-words) ≡ length ps - (16 + 2 * c) = ap length d ∙ length-drop (16 + 2 * c) ps in
-      ap length clears ∙ (cleared_long (drop (16 + 2 * c) begun-words) (slots_for n) (omega arith) (omega arith) ∙ l)
+      ap length clears ∙ (length_cleared (drop (16 + 2 * c) begun-words) (slots_for n) (omega arith) (omega arith) ∙ l)
 
   pub stands : (cs us : List ℕ) → n ≤ 1000000 → c ≤ 65536 → u ≤ 1000000 → cells_words n ≤ length cs → pieces_words c ≤ length ps →
-      Store cs after-tables (slots_for n) → cells_of cs after-tables (slots_for n) ≡ [] → Log us u [] [] → Stands cs words us new_desk
+      Kept cs after-tables (slots_for n) → cells_of cs after-tables (slots_for n) ≡ [] → Log us u [] [] → Stands cs words us new_desk
   unfolding changes_from
   stands cs us small_n small-c small-u long-cs long-ps store empty log =
       let h = length_head n c u in
@@ -82,7 +86,7 @@ module _ (n c u : ℕ) (ps begun-words after-tables : List ℕ)
       ap (λ (m : ℕ). drop (16 + 2 * m) words) g1 ∙ (ap (drop (16 + 2 * c)) is ∙ drop_at (head n c u) after-tables (16 + 2 * c) h) in
       let s : slots_for (get_or words 0 0) ≡ slots_for n = ap slots_for g0 in
       let w : length words ≡ length (head n c u) + length after-tables = ap length is ∙ length-append (head n c u) after-tables in
-      let st : Store cs (tables words) (slots_for (get_or words 0 0)) = rw (t, s) store in
+      let st : Kept cs (tables words) (slots_for (get_or words 0 0)) = rw (t, s) store in
       let none : cells_of cs (tables words) (slots_for (get_or words 0 0)) ≡ [] = rw (t, s) empty in
       let long : length after-tables ≡ length ps - (16 + 2 * c) = cleared_length small_n long-ps in
       let paper : paper_of cs words ≡ record { cells = []; changes = [] } = rw (none, g3) refl in
@@ -95,7 +99,7 @@ module _ (n c u : ℕ) (ps begun-words after-tables : List ℕ)
             few_undos = omega arith;
             cells_long = rw s (omega arith);
             pieces_long = omega arith;
-            store = st;
+            kept = st;
             cells_fit = rw none (omega arith);
             changes_fit = omega arith;
           };

@@ -177,6 +177,29 @@ module _ (cs ps us : List ℕ) (c : Call) (by : by_paper c ≡ true) where
         beyond = same_beyond cs ps us;
       }
 
+  -- one that only looks, and is not turned away; what was found of rows is kept
+  pub kept_handled : {cs' ps' : List ℕ} (a : Answer) → 6 < call_number c → turned l (desk_of cs ps) c ≡ 0 → Acted cs ps c cs ps a → Wrote cs ps cs' ps' (paper_of cs ps) →
+      Handled cs ps us c cs' ps' us (answer_bytes a)
+  kept_handled {cs'} {ps'} a late t0 acted wrote =
+      record {
+        does = λ d st.
+            let s = st.sound in
+            record {
+              stands = stands_at cs ps us cs' ps' us (paper_of cs ps) s.back s.ahead (after l d c) s wrote refl s.log (looking_keeps l (paper_of cs ps) s.back s.ahead d c st.desk late);
+              limits = wrote.limits;
+              says = ap answer_bytes (acted.says ∙ sym (answer_here d st));
+              kept = never (turned l d c) ((cs' ≡ cs) × (ps' ≡ ps) × (us ≡ us)) (turned_here d st ∙ t0);
+            };
+        beyond = record {
+          cells = wrote.cells_beyond;
+          pieces = wrote.pieces_beyond;
+          undo = refl;
+          cells_length = wrote.cells_length;
+          pieces_length = wrote.pieces_length;
+          undo_length = refl;
+        };
+      }
+
 -- the desk that sound memory holds
 pub held_desk : (cs ps us : List ℕ) (s : Sound cs ps us) → Stands cs ps us (desk_for (paper_of cs ps) s.back s.ahead)
 held_desk cs ps us s = record { sound = s; desk = record { now = refl; past = refl; future = refl; sane = s.sane } }

@@ -6,7 +6,9 @@ use Rattle.model.specs.Paper.{Cell, Change, Paper, new_cells}
 use Rattle.model.specs.Calls.{Limits, with_became}
 use Rattle.changes.specs.Row.{changes_of}
 use Rattle.changes.proofs.Steps.{changes_same}
-use Rattle.pieces.specs.Store.{Edited, Store, Frame, cells_of}
+use Rattle.kept.specs.Kept.{Around, Kept}
+use Rattle.kept.specs.Text.{Edited}
+use Rattle.pieces.specs.Store.{cells_of}
 use Rattle.session.specs.Memory.{cells_words, pieces_words, slots_for, slots_of, limits_of, tables, paper_of, Held}
 use Rattle.session.specs.Acts.{Wrote, Rowed, row_of, with_cells, with_changes}
 use Rattle.session.proofs.Heads.{judged, lent_before, lent_after, noted}
@@ -35,8 +37,8 @@ restored {cs = cs} {ps = ps} {cs' = cs'} {t = t} {ds = ds} {head = head} {td = t
     let c : ℕ = get_or ps 1 0 in
     let b : ℕ = 16 + 2 * c in
     let s : ℕ = slots_for n in
-    let store : Store ds t s = rw here edited.store in
-    let frame : Frame cs (tables ps) ds t s = rw here edited.frame in
+    let store : Kept ds t s = rw here edited.kept in
+    let frame : Around cs (tables ps) ds t s = rw here edited.around in
     let text : cells_of ds t s ≡ xs = rw here edited.text in
     let start : b ≤ length ps = omega (arith, held.pieces_long) in
     let same : (i : ℕ) → i < b → get_or q i 0 ≡ get_or ps i 0 = λ i h. ap (λ (ws : List ℕ). get_or ws i 0) is ∙ lent_before b ps t i start h in
@@ -55,9 +57,9 @@ restored {cs = cs} {ps = ps} {cs' = cs'} {t = t} {ds = ds} {head = head} {td = t
     (λ i low high. get_or-drop 16 q i 0 ∙ (same (16 + i) (omega (arith, held.changes_fit)) ∙ sym (get_or-drop 16 ps i 0))) in
     let row' : changes_of (drop 16 q) (get_or q 3 0) ≡ changes_of (drop 16 ps) (get_or ps 3 0) = ap (λ (k : ℕ). changes_of (drop 16 q) k) g3 ∙ row in
     let cells : cells_of ds (tables q) (slots_for (get_or q 0 0)) ≡ xs = rw (tab, slots) text in
-    let e : 10256 + 2 * c ≡ b + 10240 = omega arith in
-    let past : drop (10256 + 2 * c) q ≡ drop (10256 + 2 * c) ps =
-    ap (λ (k : ℕ). drop k q) e ∙ (sym (drop-drop 10240 b q) ∙ (ap (drop 10240) back ∙ (frame.words_past ∙ (drop-drop 10240 b ps ∙ ap (λ (k : ℕ). drop k ps) (sym e))))) in
+    let e : 34832 + 2 * c ≡ b + 34816 = omega arith in
+    let past : drop (34832 + 2 * c) q ≡ drop (34832 + 2 * c) ps =
+    ap (λ (k : ℕ). drop k q) e ∙ (sym (drop-drop 34816 b q) ∙ (ap (drop 34816) back ∙ (frame.words_past ∙ (drop-drop 34816 b ps ∙ ap (λ (k : ℕ). drop k ps) (sym e))))) in
     let limits : limits_of q ≡ limits_of ps = cc in
     let size : length ds ≡ length cs = frame.cells_long in
     record {
@@ -67,7 +69,7 @@ restored {cs = cs} {ps = ps} {cs' = cs'} {t = t} {ds = ds} {head = head} {td = t
         few_undos = omega (arith, held.few_undos);
         cells_long = rw slots (omega (arith, held.cells_long));
         pieces_long = omega (arith, held.pieces_long);
-        store = rw (tab, slots) store;
+        kept = rw (tab, slots) store;
         cells_fit = rw (cells, g0) few;
         changes_fit = omega (arith, held.changes_fit);
       };
@@ -99,10 +101,10 @@ rowed cs ps qs rows held note =
     let cells : cells_of cs (tables qs) (slots_for (get_or qs 0 0)) ≡ (paper_of cs ps).cells = rw (note.tables, slots) refl in
     let c : ℕ = get_or ps 1 0 in
     let b : ℕ = 16 + 2 * c in
-    let e : 10256 + 2 * c ≡ b + 10240 = omega arith in
+    let e : 34832 + 2 * c ≡ b + 34816 = omega arith in
     let tq : drop b qs ≡ tables qs = ap (λ (k : ℕ). drop (16 + 2 * k) qs) (sym g1) in
-    let past : drop (10256 + 2 * c) qs ≡ drop (10256 + 2 * c) ps =
-    ap (λ (k : ℕ). drop k qs) e ∙ (sym (drop-drop 10240 b qs) ∙ (ap (drop 10240) (tq ∙ note.tables) ∙ (drop-drop 10240 b ps ∙ ap (λ (k : ℕ). drop k ps) (sym e)))) in
+    let past : drop (34832 + 2 * c) qs ≡ drop (34832 + 2 * c) ps =
+    ap (λ (k : ℕ). drop k qs) e ∙ (sym (drop-drop 34816 b qs) ∙ (ap (drop 34816) (tq ∙ note.tables) ∙ (drop-drop 34816 b ps ∙ ap (λ (k : ℕ). drop k ps) (sym e)))) in
     record {
       held = record {
         few_cells = omega (arith, held.few_cells);
@@ -110,7 +112,7 @@ rowed cs ps qs rows held note =
         few_undos = omega (arith, held.few_undos);
         cells_long = rw slots held.cells_long;
         pieces_long = omega (arith, held.pieces_long, note.words);
-        store = rw (note.tables, slots) held.store;
+        kept = rw (note.tables, slots) held.kept;
         cells_fit = rw (cells, g0) held.cells_fit;
         changes_fit = note.fits;
       };

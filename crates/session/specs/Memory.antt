@@ -1,6 +1,6 @@
 -- What lent memory is: three slices of words, of which each is at least as long as the limits ask for.
 -- cells: the slots of the store. pieces: 0 to 2 the limits, 3 how many changes there are, 4 to 15 not used (opening makes them 0, and no call tells of
--- them); from 16 on the changes, two words each, for as many as the limit allows; after them the tables of the store. undo: the log of what can be undone.
+-- them); from 16 on the changes, two words each, for as many as the limit allows; after them the tables of the store, and what is kept of each piece. undo: the log of what can be undone.
 -- Definitions only: nothing is assumed.
 use Rattle.std.specs.Prelude.{ℕ, ◌+◌, ◌-◌, ◌*◌, ◌/◌, ◌≤◌, Bool, List, ◌∷◌, ◌++◌, length, drop, replicate, slice_index, slice_index_or}
 use Rattle.std.specs.List.{range_with_len}
@@ -11,7 +11,8 @@ use Rattle.changes.specs.Row.{changes_of}
 use Rattle.history.specs.Entry.{Entry}
 use Rattle.history.specs.Steps.{Sane, StandsFor}
 use Rattle.history.specs.Log.{Log}
-use Rattle.pieces.specs.Store.{Store, cells_of}
+use Rattle.kept.specs.Kept.{Kept}
+use Rattle.pieces.specs.Store.{cells_of}
 
 -- which calls can be done, by number: all twelve
 abbrev pub stage : ℕ → Bool
@@ -26,7 +27,7 @@ abbrev pub cells_words : ℕ → ℕ
 cells_words n = 4096 * slots_for n
 
 abbrev pub pieces_words : ℕ → ℕ
-pieces_words c = 10256 + 2 * c
+pieces_words c = 34832 + 2 * c
 
 abbrev pub undo_words : ℕ → ℕ
 undo_words u = 16 + 16 * u
@@ -54,7 +55,7 @@ pub record Held (cs ps : List ℕ) : Type 0 where
   pub few_undos : slice_index_or ps 2 0 ≤ 1000000
   pub cells_long : cells_words (slice_index ps 0) ≤ length cs
   pub pieces_long : pieces_words (slice_index ps 1) ≤ length ps
-  pub store : Store cs (tables ps) (slots_of ps)
+  pub kept : Kept cs (tables ps) (slots_of ps)
   pub cells_fit : length (paper_of cs ps).cells ≤ slice_index ps 0
   pub changes_fit : slice_index_or ps 3 0 ≤ slice_index ps 1
 
@@ -78,7 +79,7 @@ abbrev pub opened_cells : ℕ → List ℕ
 opened_cells n = replicate (cells_words n) 0
 
 abbrev pub opened_pieces : ℕ → ℕ → ℕ → List ℕ
-opened_pieces n c u = (n ∷ (c ∷ (u ∷ replicate (13 + 2 * c) 0))) ++ (range_with_len 0 (slots_for n) ++ replicate (10240 - slots_for n) 0)
+opened_pieces n c u = (n ∷ (c ∷ (u ∷ replicate (13 + 2 * c) 0))) ++ (range_with_len 0 (slots_for n) ++ replicate (34816 - slots_for n) 0)
 
 abbrev pub opened_undo : ℕ → List ℕ
 opened_undo u = replicate (undo_words u) 0

@@ -5,6 +5,7 @@ ghost use Rattle.model.specs.Values.{way_number};
 ghost use Rattle.codec.specs.Values.{meaning};
 ghost use Rattle.session.specs.Range.{is_long};
 
+use crate::cells::keep;
 use crate::deciding::run_in;
 use crate::desk::Desk;
 use crate::{Refusal, range};
@@ -125,7 +126,7 @@ impl<'a> Desk<'a> {
     fn count(&self, way: Way) -> u32
         ensures { Looks self.now (counts (way_number way)) (number result) }
     {
-        layout::count(&self.text(), way) as u32
+        self.text().seen(way) as u32
     }
 
     /// One more than the place in a way to look at which the letters first stand, at or after `from`; or 0.
@@ -149,22 +150,27 @@ impl<'a> Desk<'a> {
         saving::save(&self.text(), &self.row(), from, count, answer).ok_or(Refusal::NoSuchNumbers)
     }
 
-    /// Rows of a width in a way to look: the whole answer is written, and its length is returned.
-    fn show(&self, rows: Rows, answer: &mut [u8]) -> Result<usize, Refusal>
-        requires sound { InOrder self.now }
+    /// Rows of a width in a way to look: the whole answer is written, and its length is returned. Where rows that are shown had to be found anew, it is kept how.
+    fn show(&mut self, rows: Rows, answer: &mut [u8]) -> Result<usize, Refusal>
+        requires sound { InOrder self.old }
         requires good { good_fields (shows (way_number rows.way) rows.width rows.first rows.count) ≡ true }
         requires room { 262405 ≤ length answer.old }
-        ensures { Tells self.now (shows (way_number rows.way) rows.width rows.first rows.count) answer.old answer.new result }
+        ensures { Serves self.old self.new (shows (way_number rows.way) rows.width rows.first rows.count) answer.old answer.new result }
     {
         // Apart again, as the contract of `layout::show` speaks of each of them.
-        layout::show(
+        let Some(showing) = layout::show(
             &self.text(),
             rows.way,
             rows.width,
             rows.first,
             rows.count,
             answer,
-        )
-        .ok_or(Refusal::NoSuchRows)
+        ) else {
+            return Err(Refusal::NoSuchRows);
+        };
+        if showing.anew {
+            keep(self.cells, self.pieces, rows);
+        }
+        Ok(showing.long)
     }
 }

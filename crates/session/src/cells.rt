@@ -8,8 +8,9 @@ ghost use Rattle.session.specs.Memory.{Held, paper_of};
 ghost use Rattle.session.specs.Undoing.{CanUndo, entry_in};
 ghost use Rattle.sweep.specs.Sweep.{swept, swept_run};
 
+use crate::calls::Rows;
 use crate::desk::{row_in, slots_in, tables_from};
-use pieces::TextMut;
+use kept::TextMut;
 use sweep::Action;
 
 /// Puts letters into the text, put in by change number `change`. (Of both slices, for the reason above.)
@@ -73,6 +74,19 @@ pub fn sweep_all(cells: &mut [u32], pieces: &mut [u32], action: Action)
     };
     // How many cells it was about is known already: the log had to have room for them.
     sweep::sweep_all(&mut text, &row, action);
+}
+
+/// What was found of rows that are shown is kept. (Of both slices, for the reason above.)
+pub fn keep(cells: &mut [u32], pieces: &mut [u32], rows: Rows)
+    requires held { Held cells.old pieces.old }
+    requires least { 1 ≤ rows.width }
+    requires most { rows.width ≤ 256 }
+    ensures { Wrote cells.old pieces.old cells.new pieces.new (paper_of cells.old pieces.old) }
+{
+    let slots = slots_in(pieces);
+    let from = tables_from(pieces);
+    let (_, tables) = pieces.split_at_mut(from);
+    layout::keep(cells, tables, slots, rows.way, rows.width, rows.first);
 }
 
 /// What the call of the entry at word `at` of the log did to the cells is taken back. (Of the slices, for the reason above.)

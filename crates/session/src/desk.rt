@@ -1,12 +1,12 @@
 // The memory that a paper is kept in, as one value.
 ghost use Rattle.std.specs.Prelude.{◌≡◌, ◌+◌, ◌-◌, ◌*◌, ◌<◌, ◌≤◌, true, false, [], ◌∷◌, ◌++◌, length, drop, MatchResult, slice_index};
-ghost use Rattle.std.proofs.Props.{props};
+ghost use Rattle.kept.specs.Props.{props};
 ghost use Rattle.session.specs.Memory.{Held, slots_of, tables};
 
 use crate::Refusal;
 use changes::Row;
+use kept::Text;
 use model::Change;
-use pieces::Text;
 
 /// How many words stand before the row of changes. Words 0 to 2 are the limits of cells, changes and undos, and word 3 is how many changes there are: by
 /// their numbers here, as the C interface lends them (specs/Memory.antt).

@@ -74,7 +74,7 @@ pub fn words_for(limits: Limits) -> Sizes
 {
     Sizes {
         cells: 4096 * (limits.cells as usize / 576 + 4),
-        pieces: 10256 + 2 * limits.changes as usize,
+        pieces: 34832 + 2 * limits.changes as usize,
         undo: 16 + 16 * limits.undos as usize,
     }
 }
@@ -103,7 +103,7 @@ pub fn open(
     begin(pieces, limits);
     let tables = HEAD + 2 * limits.changes as usize;
     let slots = pieces::slots_for(limits.cells as usize);
-    pieces::clear(cells, &mut pieces[tables..], slots);
+    kept::clear(cells, &mut pieces[tables..], slots);
     history::log::clear(undo, limits.undos);
     Ok(())
 }

@@ -3,3 +3,4 @@ mod Steps
 mod Runs
 mod Marks
 mod Sets
+mod Tallied

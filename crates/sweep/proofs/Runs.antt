@@ -3,11 +3,11 @@ use Rattle.std.proofs.Common.{◌≡◌, ℕ, zero, suc, ◌+◌, ◌-◌, ◌*�
 use Rattle.std.proofs.lemmas.List.{append_assoc, append-nil, length-append, length-drop, length-take-le, take-append-drop, take-append-le, take_all, drop_all, take_at, drop_at, drop-drop}
 use Rattle.model.specs.Paper.{Cell, Change}
 use Rattle.pieces.specs.Store.{used, piece, strung, cells_of, before, Order, Located}
-use Rattle.pieces.specs.Edits.{replaced, Changed}
-use Rattle.pieces.proofs.Texts.{length_piece, length_text, drop_text}
-use Rattle.pieces.proofs.Change.{changed_text, length_replaced}
+use Rattle.pieces.specs.Edits.{replaced}
+use Rattle.pieces.proofs.Texts.{length_piece, length_text, length_before, drop_text}
+use Rattle.pieces.proofs.Change.{strung_replaced, length_replaced}
 use Rattle.sweep.specs.declared.Action.{Action}
-use Rattle.sweep.specs.Sweep.{swept, swept_run}
+use Rattle.sweep.specs.Sweep.{swept, swept_run, SweptPiece}
 use Rattle.sweep.proofs.Laws.{swept_none, swept_append}
 
 module _ (a : Action) (cs : List Change) where
@@ -66,14 +66,17 @@ cells_within c p s k o m l h =
 
 -- a turn of the loop over a run
 pub run_step : (c p d q : List ℕ) (s at k o m left r : ℕ) (a : Action) (cs : List Change) → Located p s at k o → m ≤ left → o + m ≤ used p k → at + left ≤ before p s
-    → Changed c p d q s k (swept_run a cs (piece c p k) o m) → r ≡ length (swept a cs (take m (drop o (piece c p k))))
+    → SweptPiece c p d q s k (swept_run a cs (piece c p k) o m) → r ≡ length (swept a cs (take m (drop o (piece c p k))))
     → (at + r + (left - m) ≤ before q s) × (swept_run a cs (cells_of d q s) (at + r) (left - m) ≡ swept_run a cs (cells_of c p s) at left)
 run_step c p d q s at k o m left r a cs f l h w g e =
     let t = cells_of c p s in
     let ys = swept a cs (take m (drop o (piece c p k))) in
     let here = f.here in
     let sum = f.sum in
-    let text = changed_text c p d q s k o m ys here h g in
+    let u = length_piece c p k in
+    let b = length_before c p k in
+    let made = strung_replaced (piece c p) (piece d q) k s o m ys here (omega arith) g.others g.here in
+    let text : cells_of d q s ≡ replaced t (before p k + o) m ys = cc in
     let same = cells_within c p s k o m here h in
     let len = length_text c p s in
     let len2 = length_text d q s in

@@ -1,10 +1,10 @@
 -- A sweep and the sets of marks.
-use Rattle.std.proofs.Common.{◌≡◌, ℕ, suc, ◌+◌, ◌<◌, Bool, true, false, eqb, List, [], ◌∷◌, take, drop, refl, ap, arith}
+use Rattle.std.proofs.Common.{◌≡◌, ℕ, suc, ◌<◌, Bool, true, false, eqb, List, [], ◌∷◌, take, drop, refl, ap, arith}
 use Rattle.std.specs.List.{AllByRecursion}
 use Rattle.std.proofs.ByRecursion.{All-append, All-take, All-drop}
 use Rattle.std.proofs.lemmas.Bool.{ne_eqb}
 use Rattle.model.specs.Paper.{pick, Cell, Change}
-use Rattle.pieces.specs.Marks.{Beside, Has, Lacks, Marks}
+use Rattle.pieces.specs.Marks.{Has, Lacks, Marks}
 use Rattle.pieces.specs.Store.{slot, piece, Marked, Order}
 use Rattle.pieces.specs.Edits.{Changed}
 use Rattle.pieces.proofs.Change.{carried, changed_marked}
@@ -55,8 +55,3 @@ unfolding swept
 reject_lacks c cs [] all = refl
 reject_lacks c cs (x ∷ xs) all =
     rw (ne_eqb x.put_in (suc c) all.0.put_in, ne_eqb x.struck (suc c) all.0.struck) (ap (λ ys. x ∷ ys) (reject_lacks c cs xs all.1))
-
--- pieces stay where only words of sets change
-pub beside_piece : (c p q : List ℕ) (s k : ℕ) → Order p s → Beside p q → k < s → piece c q k ≡ piece c p k
-unfolding piece
-beside_piece c p q s k o h l = let most = o.most in rw (h.below k (omega arith), h.below (4096 + k) (omega arith))

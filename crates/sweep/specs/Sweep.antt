@@ -5,7 +5,8 @@ use Rattle.model.specs.Values.{cell_of}
 use Rattle.model.specs.declared.Cell as code
 use Rattle.pieces.specs.Marks.{Has}
 use Rattle.pieces.specs.Edits.{replaced}
-use Rattle.pieces.specs.Store.{Frame, Store, piece}
+use Rattle.kept.specs.Kept.{Around, Kept}
+use Rattle.pieces.specs.Store.{piece}
 use Rattle.sweep.specs.declared.Action.{Action}
 use Rattle.sweep.specs.declared.Action.TheVariants.{Strike, Accept, Reject, Style}
 
@@ -61,8 +62,8 @@ left_of (Some x) = cell_of x ∷ []
 
 -- piece k is now xs, and the others are as they were
 pub record SweptPiece (c p d q : List ℕ) (s k : ℕ) (xs : List Cell) : Type 0 where
-  pub store : Store d q s
-  pub frame : Frame c p d q s
+  pub kept : Kept d q s
+  pub around : Around c p d q s
   pub here : piece d q k ≡ xs
   pub others : (j : ℕ) → j < s → j ≢ k → piece d q j ≡ piece c p j
 

@@ -5,16 +5,18 @@ ghost use Rattle.std.specs.Prelude.{◌≡◌, ℕ, suc, ◌+◌, ◌*◌, ◌/�
 ghost use Rattle.changes.specs.Rows.{changes_in};
 ghost use Rattle.model.specs.Paper.{author_of, pick, touched as touches};
 ghost use Rattle.model.specs.Values.{cell_of};
+ghost use Rattle.kept.specs.Kept.{Kept as KeptText};
 ghost use Rattle.pieces.specs.Edits.{Changed, Resized};
 ghost use Rattle.pieces.specs.Store.{Order, Store, piece, slot, used};
-ghost use Rattle.pieces.specs.Text.{cells_in, cells_of_mut, Rewrites};
+ghost use Rattle.kept.specs.Text.{cells_in, cells_of_mut, Rewrites};
 ghost use Rattle.slots.specs.Cells.{Kept, all_cells, cell_at, cells_at};
 ghost use Rattle.sweep.specs.Sweep.{changed as afterwards, concerned as concerned_in, fate as fate_of, goes as is_gone, left_of, marked, Noted, OneMeaning, swept, swept_run, SweptPiece};
 ghost use Rattle.tree.specs.Tree.{Sums};
 
 use changes::Row;
+use kept::{Text, TextMut};
 use model::Cell;
-use pieces::{Spot, Text, TextMut};
+use pieces::Spot;
 
 /// What a sweep does to the cells it comes to. A strike writes the mark, which is one more than the number of its change.
 #[derive(Clone, Copy, Debug, PartialEq, Eq, Hash)]
@@ -249,11 +251,26 @@ impl<'a> Sweep<'a> {
         left
     }
 
+    // Sweeps `n` cells of a piece, from the spot on, and tallies it. Returns how many of them are left.
+    // The slices apart, as in `sweep_piece`.
+    fn sweep_part(&self, c: &mut [u32], p: &mut [u32], s: usize, spot: Spot, n: usize) -> usize
+        requires kept { KeptText c.old p.old s }
+        requires here { spot.piece < s }
+        requires within { spot.offset + n ≤ used p.old spot.piece }
+        ensures swept { SweptPiece c.old p.old c.new p.new s spot.piece (swept_run self.now.action (changes_in self.now.row) (piece c.old p.old spot.piece) spot.offset n) }
+        ensures left { result ≡ length (swept self.now.action (changes_in self.now.row) (take n (drop spot.offset (piece c.old p.old spot.piece)))) }
+        ensures few { result ≤ n }
+    {
+        let left = self.sweep_piece(c, p, s, spot, n);
+        kept::tally(c, p, s, spot.piece);
+        left
+    }
+
     // Sweeps all cells of piece `k`, and makes its set of marks anew, from the cells that are left (no contract says that it has no others). A piece without a cell that the sweep
     // is about is only read. Returns how many such cells there were.
     // The slices apart, as in `sweep_piece`: of a `TextMut` each contract would have to say too that it is the same memory, as `Rewrites` does for a whole sweep.
     fn sweep_whole(&self, c: &mut [u32], p: &mut [u32], s: usize, k: usize) -> usize
-        requires store { Store c.old p.old s }
+        requires kept { KeptText c.old p.old s }
         requires here { k < s }
         ensures swept { SweptPiece c.old p.old c.new p.new s k (swept self.now.action (changes_in self.now.row) (piece c.old p.old k)) }
         ensures count { result ≡ concerned_in self.now.action (piece c.old p.old k) }
@@ -274,7 +291,7 @@ impl<'a> Sweep<'a> {
             offset: 0,
         };
         let has = text.used(k);
-        self.sweep_piece(c, p, s, start, has);
+        self.sweep_part(c, p, s, start, has);
         pieces::remark(c, p, s, k);
         count
     }
@@ -295,7 +312,7 @@ pub fn sweep_run(text: &mut TextMut, row: &Row, place: usize, n: usize, action: 
         // As many as stand in this piece. In two lines, as a function of them would have to give both the spot and the number.
         let has = lent.used(spot.piece) - spot.offset;
         let m = left.min(has);
-        next += sweep.sweep_piece(text.cells, text.tables, text.slots, spot, m);
+        next += sweep.sweep_part(text.cells, text.tables, text.slots, spot, m);
         left -= m;
     }
 }

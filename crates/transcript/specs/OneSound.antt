@@ -10,6 +10,7 @@ use Rattle.history.specs.Entry.{Entry, undo_of, redo_of}
 use Rattle.history.specs.Steps.{Made, SaneBack, SaneAhead, Sane}
 use Rattle.history.specs.Log.{Log}
 use Rattle.history.proofs.Logging.{one_log}
+use Rattle.kept.specs.Kept.{Tallies}
 use Rattle.session.specs.Memory.{limits_of, paper_of, Held, Sound}
 
 entry_set : IsSet Entry
@@ -37,8 +38,12 @@ sane_prop l p back ahead = hlevel (props, behind_prop, before_prop)
 log_prop : (us : List ℕ) (n : ℕ) (back ahead : List Entry) → IsProp (Log us n back ahead)
 log_prop us n back ahead = hlevel props
 
+tallies_prop : (c p : List ℕ) (s : ℕ) → IsProp (Tallies c p s)
+unfolding Tallies
+tallies_prop c p s = hlevel props
+
 held_prop : (cs ps : List ℕ) → IsProp (Held cs ps)
-held_prop cs ps = hlevel props
+held_prop cs ps = hlevel (props, tallies_prop)
 
 pub sound_prop : (cs ps us : List ℕ) → IsProp (Sound cs ps us)
 sound_prop cs ps us a b =

@@ -9,7 +9,7 @@ const LEAVES: usize = 2048;
 
 const HEIGHT: usize = 11;
 
-// A piece, whose cells a leaf counts, and a place in it.
+// A piece, whose cells a leaf counts, and a place among those that it counts.
 #[derive(Clone, Copy, Debug, PartialEq, Eq, Hash)]
 pub struct Spot {
     pub piece: usize,

@@ -12,14 +12,15 @@ use Rattle.history.specs.Entry.{Entry}
 use Rattle.history.specs.Steps.{StandsFor}
 use Rattle.history.specs.Words.{back_words, ahead_words}
 use Rattle.history.proofs.Logging.{length_cells_written}
-use Rattle.pieces.specs.Store.{Store, cells_of}
+use Rattle.kept.specs.Kept.{Kept}
+use Rattle.pieces.specs.Store.{cells_of}
 use Rattle.session.specs.Memory.{stage, slots_for, cells_words, pieces_words, tables, paper_of, Held, Stands, opened_cells, opened_pieces}
 use Rattle.session.specs.Contract.{Fit}
 use Rattle.session.specs.Keeping.{Holds}
-use Rattle.witness.proofs.Counts.{tables_for, length_tables, table_for, marked_for, tables_fit, tables_none}
 use Rattle.witness.proofs.Small.{Small, OfPaper, small_append, small_zeros, cells_small, changes_small}
 use Rattle.witness.proofs.Entries.{log_for, length_log, is_log, log_for_small}
-use Rattle.witness.proofs.Written.{length_changes_written, changes_back, text_back}
+use Rattle.witness.proofs.Written.{length_changes_written, changes_back}
+use Rattle.witness.proofs.Seen.{all_tables, length_all, all_fit, all_none, all_text, kept_all}
 
 -- what memory keeps: a paper, and its entries on either side
 pub record State : Type 0 where
@@ -51,7 +52,7 @@ abbrev row_for : Limits → Paper → List ℕ
 row_for l p = changes_written p.changes ++ changes_left l p
 
 abbrev store_for : Limits → Paper → List ℕ
-store_for l p = tables_for (length p.cells) (slots_for l.cells)
+store_for l p = all_tables p.cells (slots_for l.cells)
 
 abbrev pub cells_for : Limits → Paper → List ℕ
 cells_for l p = cells_written p.cells ++ cells_left l p
@@ -90,14 +91,14 @@ module _ (l : Limits) (p : Paper) (within : Within l p) where
   length_pieces_for =
       let a = length-append (row_for l p) (store_for l p) in
       let b = length_row in
-      let c = length_tables (length p.cells) (slots_for l.cells) in
+      let c = length_all p.cells (slots_for l.cells) in
       omega arith
 
   tables_are : tables (pieces_for l p) ≡ store_for l p
   tables_are = sym (drop-drop (2 * l.changes) 16 (pieces_for l p)) ∙ drop_at (row_for l p) (store_for l p) (2 * l.changes) length_row
 
   cells_are : cells_of (cells_for l p) (tables (pieces_for l p)) (slots_for l.cells) ≡ p.cells
-  cells_are = rw tables_are (text_back (cells_for l p) (cells_left l p) p.cells (slots_for l.cells) (omega arith) (omega arith) refl)
+  cells_are = rw tables_are (all_text (cells_for l p) (cells_left l p) p.cells (slots_for l.cells) (omega arith) refl (omega (arith, within.cells)))
 
   changes_are : changes_of (drop 16 (pieces_for l p)) (length p.changes) ≡ p.changes
   changes_are =
@@ -111,9 +112,8 @@ module _ (l : Limits) (p : Paper) (within : Within l p) where
   held_for =
       let long-cells = length_cells_for in
       let long-pieces = length_pieces_for in
-      let table = table_for (length p.cells) (slots_for l.cells) (omega arith) (omega arith) (omega arith) in
-      let marked = marked_for (length p.cells) (slots_for l.cells) (omega arith) (cells_for l p) in
-      let store : Store (cells_for l p) (tables (pieces_for l p)) (slots_for l.cells) = record { room = omega arith; table = rw tables_are table; marked = rw tables_are marked } in
+      let kept : Kept (cells_for l p) (tables (pieces_for l p)) (slots_for l.cells) =
+      rw tables_are (kept_all (cells_for l p) (cells_left l p) p.cells (slots_for l.cells) (omega arith) refl (omega arith) (omega (arith, within.cells)) (omega arith)) in
       let cells_fit : length (paper_of (cells_for l p) (pieces_for l p)).cells ≤ l.cells = rw cells_are within.cells in
       search rules
 
@@ -122,7 +122,7 @@ module _ (l : Limits) (p : Paper) (within : Within l p) where
       small_append (head_for l p) (row_for l p ++ store_for l p) head_small
       (small_append (row_for l p) (store_for l p)
       (small_append (changes_written p.changes) (changes_left l p) (changes_small p.changes small.changes) (small_zeros _))
-      (tables_fit (length p.cells) (slots_for l.cells) (omega arith)))
+      (all_fit p.cells (slots_for l.cells) (omega arith)))
     where
       head_small : Small (head_for l p)
       head_small zero = omega arith
@@ -178,4 +178,4 @@ opened_pieces_are l good =
     let e : 2 * l.changes - 2 * 0 ≡ 2 * l.changes = omega arith in
     let zeros : replicate {A = ℕ} 13 0 ++ replicate (2 * l.changes - 2 * 0) 0 ≡ replicate (13 + 2 * l.changes) 0 =
     ap (λ (k : ℕ). replicate {A = ℕ} 13 0 ++ replicate k 0) e ∙ replicate-append-replicate 13 (2 * l.changes) 0 in
-    ap₂ (λ (xs ys : List ℕ). l.cells ∷ (l.changes ∷ (l.undos ∷ (xs ++ ys)))) zeros (tables_none (slots_for l.cells) (omega arith))
+    ap₂ (λ (xs ys : List ℕ). l.cells ∷ (l.changes ∷ (l.undos ∷ (xs ++ ys)))) zeros (all_none (slots_for l.cells) (omega arith))

@@ -1,14 +1,14 @@
 -- Cells and changes that were written one after the other, read back. Assumes nothing.
-use Rattle.std.proofs.Common.{◌≡◌, ℕ, zero, suc, ◌+◌, ◌*◌, ◌≤◌, min, List, [], ◌∷◌, ◌++◌, length, get_or, drop, sym, refl, ap, ◌∙◌, ap₂, inl, inr, add-zero, arith}
+use Rattle.std.proofs.Common.{◌≡◌, ℕ, zero, suc, ◌+◌, ◌*◌, ◌<◌, ◌≤◌, min, List, [], ◌∷◌, ◌++◌, length, get_or, drop, sym, refl, ap, ◌∙◌, ap₂, inl, inr, add-zero, arith}
 use Rattle.std.proofs.lemmas.List.{append-nil, drop-drop, get_or-drop}
 use Rattle.std.proofs.lemmas.Bool.{cases_lt}
 use Rattle.model.specs.Paper.{Cell, Change, cells_written, changes_written}
 use Rattle.changes.specs.Row.{change_at, changes_from}
 use Rattle.slots.specs.Cells.{cell_at, cells_at}
 use Rattle.slots.proofs.Words.{cells_split}
-use Rattle.pieces.specs.Store.{slot, used, piece, strung}
+use Rattle.pieces.specs.Store.{slot, used, piece, strung, cells_of}
 use Rattle.pieces.proofs.Strung.{strung_zero, strung_more}
-use Rattle.witness.proofs.Counts.{share, tables_for, order_word, used_word}
+use Rattle.witness.proofs.Counts.{share, Begins, order_word, used_word}
 
 pub length_changes_written : (xs : List Change) → length (changes_written xs) ≡ 2 * length xs
 unfolding changes_written
@@ -46,35 +46,40 @@ changes_back w rest k (x ∷ xs) e =
     let one : change_at w k ≡ x = rw (w0, w1) refl in
     ap₂ ◌∷◌ one r
 
--- the first k pieces have the first cells
-pieces_back : (c : List ℕ) (m s : ℕ) → s ≤ 2048 → (k : ℕ) → k ≤ s → strung (piece c (tables_for m s)) 0 k ≡ cells_at c 0 (min (1024 * k) m)
-unfolding piece cells_at
-pieces_back c m s most zero l = let e : min (1024 * 0) m ≡ 0 = omega arith in rw e (strung_zero (piece c (tables_for m s)) 0)
-pieces_back c m s most (suc k) l =
-    let p : List ℕ = tables_for m s in
-    let before : strung (piece c p) 0 k ≡ cells_at c 0 (min (1024 * k) m) = pieces_back c m s most k (omega arith) in
-    let more : strung (piece c p) 0 (suc k) ≡ strung (piece c p) 0 k ++ piece c p k = strung_more (piece c p) k in
-    let a : slot p k ≡ k = order_word m s most k (omega arith) in
-    let b : used p k ≡ share m k = used_word m s most k (omega arith) in
-    let here : piece c p k ≡ cells_at c (1024 * k) (share m k) = rw (a, b) refl in
-    let joined : cells_at c 0 (min (1024 * k) m) ++ cells_at c (1024 * k) (share m k) ≡ cells_at c 0 (min (1024 * suc k) m) =
-    elim (cases_lt (1024 * k) m) [
-      | inl h ↦
-          let f : min (1024 * k) m ≡ 1024 * k = omega arith in
-          let g : min (1024 * suc k) m ≡ 1024 * k + share m k = omega arith in
-          let z : 0 + 1024 * k ≡ 1024 * k = omega arith in
-          rw (f, g) (sym (rw z at (cells_split c 0 (1024 * k) (share m k))))
-      | inr h ↦
-          let f : min (1024 * k) m ≡ m = omega arith in
-          let g : min (1024 * suc k) m ≡ m = omega arith in
-          let z : share m k ≡ 0 = omega arith in
-          rw (f, g, z) (append-nil (cells_at c 0 m))
-    ] in
-    cc
+-- the words p begin with the tables of m cells: the first k pieces have the first cells
+module _ (c : List ℕ) (m s : ℕ) (most : s ≤ 2048) (p : List ℕ) (begins : Begins p m s) where
+  pub piece_back : (k : ℕ) → k < s → piece c p k ≡ cells_at c (1024 * k) (share m k)
+  unfolding piece
+  piece_back k h =
+      let a : slot p k ≡ k = order_word m s most p begins k h in
+      let b : used p k ≡ share m k = used_word m s most p begins k (omega arith) in
+      rw (a, b) refl
+
+  pieces_back : (k : ℕ) → k ≤ s → strung (piece c p) 0 k ≡ cells_at c 0 (min (1024 * k) m)
+  unfolding cells_at
+  pieces_back zero l = let e : min (1024 * 0) m ≡ 0 = omega arith in rw e (strung_zero (piece c p) 0)
+  pieces_back (suc k) l =
+      let before : strung (piece c p) 0 k ≡ cells_at c 0 (min (1024 * k) m) = pieces_back k (omega arith) in
+      let more : strung (piece c p) 0 (suc k) ≡ strung (piece c p) 0 k ++ piece c p k = strung_more (piece c p) k in
+      let here : piece c p k ≡ cells_at c (1024 * k) (share m k) = piece_back k (omega arith) in
+      let joined : cells_at c 0 (min (1024 * k) m) ++ cells_at c (1024 * k) (share m k) ≡ cells_at c 0 (min (1024 * suc k) m) =
+      elim (cases_lt (1024 * k) m) [
+        | inl h ↦
+            let f : min (1024 * k) m ≡ 1024 * k = omega arith in
+            let g : min (1024 * suc k) m ≡ 1024 * k + share m k = omega arith in
+            let z : 0 + 1024 * k ≡ 1024 * k = omega arith in
+            rw (f, g) (sym (rw z at (cells_split c 0 (1024 * k) (share m k))))
+        | inr h ↦
+            let f : min (1024 * k) m ≡ m = omega arith in
+            let g : min (1024 * suc k) m ≡ m = omega arith in
+            let z : share m k ≡ 0 = omega arith in
+            rw (f, g, z) (append-nil (cells_at c 0 m))
+      ] in
+      cc
 
 -- the text of filled pieces
-pub text_back : (c rest : List ℕ) (xs : List Cell) (s : ℕ) → s ≤ 2048 → length xs ≤ 1024 * s → c ≡ cells_written xs ++ rest →
-    strung (piece c (tables_for (length xs) s)) 0 s ≡ xs
-text_back c rest xs s most room e =
+pub text_back : (c rest : List ℕ) (xs : List Cell) (s : ℕ) (p : List ℕ) → s ≤ 2048 → length xs ≤ 1024 * s → c ≡ cells_written xs ++ rest → Begins p (length xs) s →
+    cells_of c p s ≡ xs
+text_back c rest xs s p most room e begins =
     let f : min (1024 * s) (length xs) ≡ length xs = omega arith in
-    pieces_back c (length xs) s most s (omega arith) ∙ ap (cells_at c 0) f ∙ cells_back c rest 0 xs e
+    pieces_back c (length xs) s most p begins s (omega arith) ∙ ap (cells_at c 0) f ∙ cells_back c rest 0 xs e

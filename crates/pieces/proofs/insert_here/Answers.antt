@@ -3,6 +3,7 @@ use Rattle.slots.specs.Cells.{all_cells}
 use Rattle.slots.proofs.Words.{length_cells}
 use Rattle.pieces.proofs.Sets.{piece_noted, sums_beside}
 use Rattle.pieces.proofs.Change.{replaced_here, resized_grown}
+use Rattle.pieces.proofs.Edit.{changed_store}
 use Rattle.pieces.proofs.insert_here.Goals as goal
 
 pub note_cells-requires : goal.note_cells-requires
@@ -27,10 +28,11 @@ returns c =
     let e = c.resize.ensures.resized.order k (omega arith) in
     let a = o.inside k c.requires.here in
     let noted = piece_noted q r k xs (omega arith) (omega arith) (omega (arith, c.resize.auto.p)) c.note_cells.ensures in
+    let changed = replaced_here c.args.c.now c.args.p.now c.insert_cells.new.c r c.args.s k c.args.at.offset 0 _
+    xs o c.requires.here (omega arith) (omega arith) (omega arith) c.insert_cells.ensures
+    (resized_grown c.args.p.now q r k _ (omega arith) c.resize.ensures.resized noted.0) in
     record {
-      changed = replaced_here c.args.c.now c.args.p.now c.insert_cells.new.c r c.args.s k c.args.at.offset 0 _
-          xs o c.requires.here (omega arith) (omega arith) (omega arith) c.insert_cells.ensures
-          (resized_grown c.args.p.now q r k _ (omega arith) c.resize.ensures.resized noted.0);
-      sums = sums_beside q r noted.0.beside c.resize.ensures.sums;
-      marks = noted.1;
+      changed = changed;
+      store = changed_store c.args.c.now c.args.p.now c.insert_cells.new.c r c.args.s k c.args.at.offset 0 xs c.requires.store c.requires.here
+          changed (sums_beside q r noted.0.beside c.resize.ensures.sums) noted.1;
     }

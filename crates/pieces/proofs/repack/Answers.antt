@@ -31,7 +31,7 @@ returns c =
     let store = c.remark_all.ensures.store in
     record {
       same = same_both c.args.c.now c.args.p.now c.loop-j.c c.recount.new.p c.loop-j.c c.remark_all.new.p s same (beside_same c.loop-j.c c.recount.new.p c.remark_all.new.p s st beside store);
-      sums = store.table.sums;
+      store = store;
       spare = λ l. beside.below (4096 + (s - 1)) (omega arith) ∙ recounted_used c.loop-j.c c.loop-j.p c.recount.new.p s o c.recount.ensures.same (s - 1) (omega arith)
           ∙ packed_spare c.loop-j.p s c.loop-j.i some packed (omega arith) (omega arith);
     }

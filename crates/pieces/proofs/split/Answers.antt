@@ -1,5 +1,6 @@
 use Rattle.std.proofs.Common.{arith}
 use Rattle.pieces.proofs.Cuts.{rotated_order, rotated_next, rotated_here, cut}
+use Rattle.pieces.proofs.Edit.{store_after}
 use Rattle.pieces.proofs.split.Goals as goal
 
 pub shift-requires : goal.shift-requires
@@ -25,9 +26,11 @@ shift-requires c =
 
 pub returns : goal.returns
 returns c =
+    let h = cut c.args.c.now c.args.p.now c.rotate.new.p c.rotate-2.new.p c.shift.new.c c.shift.new.p c.recount.new.p
+    c.args.s c.args.at.piece c.args.at.offset _ c.requires.store.table.order c.requires.here c.requires.within c.requires.spare
+    c.rotate.ensures c.rotate-2.ensures (omega (arith, c.used.ensures)) c.shift.ensures c.recount.ensures.same in
     record {
-      cut = cut c.args.c.now c.args.p.now c.rotate.new.p c.rotate-2.new.p c.shift.new.c c.shift.new.p c.recount.new.p
-          c.args.s c.args.at.piece c.args.at.offset _ c.requires.store.table.order c.requires.here c.requires.within c.requires.spare
-          c.rotate.ensures c.rotate-2.ensures (omega (arith, c.used.ensures)) c.shift.ensures c.recount.ensures.same;
-      sums = c.recount.ensures.sums;
+      cut = h;
+      store = store_after c.args.c.now c.args.p.now c.shift.new.c c.recount.new.p c.args.s c.requires.store h.same.frame h.same.order c.recount.ensures.sums
+          (h.same.marked c.requires.store.marked);
     }

@@ -1,7 +1,7 @@
 -- One stretch more, and at the end all.
 use Rattle.std.proofs.Common.{◌≡◌, ◌*◌, ◌∙◌, take, drop, sym, arith}
 use Rattle.model.specs.Paper.{cells_written}
-use Rattle.pieces.specs.Text.{cells_in}
+use Rattle.kept.specs.Text.{cells_in}
 use Rattle.recorder.proofs.Splices.{put_at, written_front, written_none}
 use Rattle.recorder.proofs.Runs.{text_small, stretched_long, run_more}
 use Rattle.recorder.proofs.copy_text.Goals as goal
@@ -13,7 +13,7 @@ loop-done-init c = (sym (written_none c.args.words.now 0), omega arith)
 pub overflow_add-place : goal.overflow_add-place
 overflow_add-place c =
     let t = c.args.text.now in
-    omega (arith, c.requires.within, c.loop-done-test.true, text_small t.cells.now t.tables.now t.slots t.store.table.order)
+    omega (arith, c.requires.within, c.loop-done-test.true, text_small t.cells.now t.tables.now t.slots t.kept.store.table.order)
 
 pub loop-done-preserved : goal.loop-done-preserved
 loop-done-preserved c =

@@ -1,7 +1,7 @@
 -- The cells so far stand there.
 use Rattle.std.proofs.Common.{◌≡◌, ◌-◌, ◌≤◌, take, drop}
 use Rattle.model.specs.Paper.{cells_written}
-use Rattle.pieces.specs.Text.{cells_in}
+use Rattle.kept.specs.Text.{cells_in}
 use Rattle.recorder.proofs.Splices.{written_at}
 use Rattle.recorder.proofs.copy_text.Given as goal
 

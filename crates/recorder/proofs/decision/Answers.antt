@@ -1,7 +1,7 @@
 -- Room, the marks, and the head around them.
 use Rattle.std.proofs.Common.{◌+◌, [], ◌-◌, length, refl, arith}
 use Rattle.model.specs.Paper.{Paper}
-use Rattle.pieces.specs.Text.{cells_in}
+use Rattle.kept.specs.Text.{cells_in}
 use Rattle.history.specs.Entry.{entry_of}
 use Rattle.recorder.specs.Records.{decided}
 use Rattle.recorder.proofs.Entries.{decided_words, decided_counts, decided_head}
@@ -13,7 +13,7 @@ use Rattle.recorder.proofs.decision.Goals as goal
 
 pub overflow_add-count : goal.overflow_add-count
 overflow_add-count c =
-    let small = text_small c.args.text.now.cells.now c.args.text.now.tables.now c.args.text.now.slots c.args.text.now.store.table.order in
+    let small = text_small c.args.text.now.cells.now c.args.text.now.tables.now c.args.text.now.slots c.args.text.now.kept.store.table.order in
     omega (arith, c.requires.count, touched_few (cells_in c.args.text.now) c.args.change)
 
 pub returns-in_default : goal.returns-in_default

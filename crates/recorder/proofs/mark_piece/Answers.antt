@@ -15,7 +15,7 @@ returns-then-not-may_have c =
 pub mark_cells-requires : goal.mark_cells-requires
 mark_cells-requires c =
     let t = c.args.text.now in
-    let order = t.store.table.order in
+    let order = t.kept.store.table.order in
     let small = order.small c.args.k c.requires.here in
     let n = ap (λ xs. touched xs c.args.change) c.words_of.ensures.cells in
     record {

@@ -1,7 +1,7 @@
 -- One piece more, and at the end all.
 use Rattle.std.proofs.Common.{◌≡◌, ◌*◌, refl, arith}
 use Rattle.pieces.specs.Store.{before, piece, strung}
-use Rattle.pieces.specs.Text.{cells_in}
+use Rattle.kept.specs.Text.{cells_in}
 use Rattle.pieces.proofs.Texts.{before_more}
 use Rattle.recorder.proofs.Runs.{before_small}
 use Rattle.recorder.proofs.Marking.{marked_none, marked_front, marked_from, marked_next, text_room}
@@ -34,7 +34,7 @@ slice_bounds-mark_piece-start c =
 pub mark_piece-found-requires : goal.mark_piece-found-requires
 mark_piece-found-requires c =
     let inv = c.loop-k.invariant in
-    let order = c.args.text.now.store.table.order in
+    let order = c.args.text.now.kept.store.table.order in
     let small = before_small c.args.text.now.tables.now c.args.text.now.slots order c.loop-k.k (omega arith) in
     let r = text_room c.args.text.now.cells.now c.args.text.now.tables.now c.args.text.now.slots c.loop-k.k c.args.change (omega arith) in
     record { mark = c.requires.mark; here = omega arith; low = omega (arith, inv.1); target = omega (arith, c.requires.target, inv.0.count, c.loop-k.auto.words) }
@@ -46,7 +46,7 @@ overflow_add-found c =
 
 pub overflow_add-first : goal.overflow_add-first
 overflow_add-first c =
-    let order = c.args.text.now.store.table.order in
+    let order = c.args.text.now.kept.store.table.order in
     let small = before_small c.args.text.now.tables.now c.args.text.now.slots order c.loop-k.k (omega arith) in
     let less = order.small c.loop-k.k (omega arith) in
     omega (arith, c.loop-k.invariant.1, c.used-first.ensures, order.most)

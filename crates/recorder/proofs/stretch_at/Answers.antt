@@ -14,12 +14,12 @@ part-requires c =
     let t = c.args.text.now in
     let f = c.locate-spot.ensures in
     let k = c.locate-spot.result.piece in
-    let inside = t.store.table.order.inside k f.here in
-    let small = t.store.table.order.small k f.here in
-    omega (arith, t.store.room, f.within, c.used.ensures, c.number_of-from.ensures, c.min.ensures)
+    let inside = t.kept.store.table.order.inside k f.here in
+    let small = t.kept.store.table.order.small k f.here in
+    omega (arith, t.kept.store.room, f.within, c.used.ensures, c.number_of-from.ensures, c.min.ensures)
 
 pub returns : goal.returns
 returns c =
     let t = c.args.text.now in
     stretched t.cells.now t.tables.now t.slots c.args.place c.args.most c.locate-spot.result.piece c.locate-spot.result.offset _ c.number_of-from.result _ c.part.result.now
-    t.store c.locate-spot.ensures c.used.ensures c.number_of-from.ensures c.requires.some c.min.ensures c.part.ensures.cells c.part.ensures.long
+    t.kept.store c.locate-spot.ensures c.used.ensures c.number_of-from.ensures c.requires.some c.min.ensures c.part.ensures.cells c.part.ensures.long

@@ -3,7 +3,7 @@ use Rattle.std.proofs.Common.{◌+◌, take, drop, ◌-◌, length, refl, arith}
 use Rattle.model.specs.Paper.{Paper, cells_written}
 use Rattle.model.specs.Calls.{strikes}
 use Rattle.changes.specs.Rows.{changes_in}
-use Rattle.pieces.specs.Text.{cells_in}
+use Rattle.kept.specs.Text.{cells_in}
 use Rattle.history.specs.Entry.{entry_of}
 use Rattle.recorder.proofs.Splices.{written_from}
 use Rattle.recorder.proofs.Entries.{struck_words, struck_counts, struck_head}
@@ -12,7 +12,7 @@ use Rattle.recorder.proofs.Sealing.{too_much, roomed_inside, ready, recorded, re
 use Rattle.recorder.proofs.strike.Goals as goal
 
 pub overflow_add-n : goal.overflow_add-n
-overflow_add-n c = omega (arith, c.requires.within, text_small c.args.text.now.cells.now c.args.text.now.tables.now c.args.text.now.slots c.args.text.now.store.table.order)
+overflow_add-n c = omega (arith, c.requires.within, text_small c.args.text.now.cells.now c.args.text.now.tables.now c.args.text.now.slots c.args.text.now.kept.store.table.order)
 
 pub returns-in_default : goal.returns-in_default
 returns-in_default c =

@@ -2,7 +2,7 @@
 use Rattle.std.proofs.Common.{◌+◌, [], ◌-◌, length, refl, arith}
 use Rattle.model.specs.Paper.{Paper}
 use Rattle.model.specs.Calls.{styles}
-use Rattle.pieces.specs.Text.{cells_in}
+use Rattle.kept.specs.Text.{cells_in}
 use Rattle.history.specs.Entry.{entry_of}
 use Rattle.recorder.proofs.Entries.{styled_words, styled_counts, styled_head}
 use Rattle.recorder.proofs.Runs.{text_small}
@@ -11,7 +11,7 @@ use Rattle.recorder.proofs.Sealing.{too_much, roomed_inside, ready, recorded, re
 use Rattle.recorder.proofs.style.Goals as goal
 
 pub overflow_add-n : goal.overflow_add-n
-overflow_add-n c = omega (arith, c.requires.within, text_small c.args.text.now.cells.now c.args.text.now.tables.now c.args.text.now.slots c.args.text.now.store.table.order)
+overflow_add-n c = omega (arith, c.requires.within, text_small c.args.text.now.cells.now c.args.text.now.tables.now c.args.text.now.slots c.args.text.now.kept.store.table.order)
 
 pub returns-in_default : goal.returns-in_default
 returns-in_default c =

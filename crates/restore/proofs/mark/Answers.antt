@@ -3,10 +3,10 @@ use Rattle.std.proofs.lemmas.List.{take_rest, length-drop}
 use Rattle.model.specs.Values.{cell_of}
 use Rattle.model.proofs.Picks.{pick_true, pick_false}
 use Rattle.pieces.specs.Store.{before}
-use Rattle.pieces.specs.Text.{cells_of_mut}
+use Rattle.kept.specs.Text.{cells_of_mut}
 use Rattle.pieces.proofs.Texts.{length_text}
 use Rattle.restore.specs.Back.{goes, first_mark}
-use Rattle.restore.proofs.Rewriting.{rewrites_as}
+use Rattle.kept.proofs.Rewriting.{rewrites_as}
 use Rattle.restore.proofs.Marking.{first_cell, known, mark_went, mark_stayed}
 use Rattle.restore.proofs.mark.Goals as goal
 

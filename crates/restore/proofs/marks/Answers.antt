@@ -1,7 +1,7 @@
 use Rattle.std.proofs.Common.{rules, ◌∙◌, arith}
 use Rattle.std.specs.Slice.Iter.{chunks_exact_rest}
 use Rattle.restore.specs.Back.{goes}
-use Rattle.restore.proofs.Marking.{going_place, going_more, going_all}
+use Rattle.restore.proofs.Marking.{going_none, going_place, going_more, going_all}
 use Rattle.restore.proofs.marks.Goals as goal
 
 pub mark-requires-clause-place : goal.mark-requires-clause-place
@@ -33,3 +33,7 @@ pub returns : goal.returns
 returns c =
     let inv = c.loop-part.invariant in
     going_all (goes c.args.verdict c.args.change) c.args.words.now _ c.args.text.now c.loop-part.text (omega (arith, c.in-None.ensures.steps.1.0, inv.2)) inv.3
+
+pub loop-part-init : goal.loop-part-init
+loop-part-init c =
+    (search rules, tt, search rules, going_none (goes c.args.verdict c.args.change) c.args.words.now _ c.args.text.now (search rules) c.requires)

@@ -1,8 +1,8 @@
 use Rattle.std.proofs.Common.{◌-◌, sym, ap, ◌∙◌, subst}
-use Rattle.pieces.specs.Text.{cells_of_mut}
+use Rattle.kept.specs.Text.{cells_of_mut}
 use Rattle.history.specs.Entry.{goes_accepted, goes_rejected, run_back, marks_back}
 use Rattle.restore.specs.Back.{taken_back, CanMark, CanTakeBack}
-use Rattle.restore.proofs.Rewriting.{rewrites_as}
+use Rattle.kept.proofs.Rewriting.{rewrites_as}
 use Rattle.restore.proofs.Runs.{all_taken}
 use Rattle.restore.proofs.Marking.{marks_taken}
 use Rattle.restore.proofs.Entries.{run_needs, run_makes}

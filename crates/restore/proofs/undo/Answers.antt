@@ -1,7 +1,7 @@
 use Rattle.std.proofs.lemmas.List.{take_rest}
-use Rattle.pieces.specs.Text.{cells_of_mut}
+use Rattle.kept.specs.Text.{cells_of_mut}
 use Rattle.restore.proofs.Entries.{taken_back_is, can_take_back}
-use Rattle.restore.proofs.Rewriting.{rewrites_as}
+use Rattle.kept.proofs.Rewriting.{rewrites_as}
 use Rattle.restore.proofs.undo.Goals as goal
 
 pub take_back-requires-clause-can : goal.take_back-requires-clause-can

@@ -4,11 +4,11 @@ use Rattle.saving.proofs.Files.{before_few, saves_none, saves}
 use Rattle.saving.proofs.save.Goals as goal
 
 pub overflow_mul-count : goal.overflow_mul-count
-overflow_mul-count c = let b = before_few c.args.text.now.tables.now c.args.text.now.slots c.args.text.now.store.table.order in let e = c.count.ensures in omega arith
+overflow_mul-count c = let b = before_few c.args.text.now.tables.now c.args.text.now.slots c.args.text.now.kept.store.table.order in let e = c.count.ensures in omega arith
 
 pub overflow_add-before-2 : goal.overflow_add-before-2
 overflow_add-before-2 c =
-    let b = before_few c.args.text.now.tables.now c.args.text.now.slots c.args.text.now.store.table.order in
+    let b = before_few c.args.text.now.tables.now c.args.text.now.slots c.args.text.now.kept.store.table.order in
     let e = c.count.ensures in
     let r = c.requires.row in
     omega arith

@@ -2,7 +2,7 @@ use Rattle.std.proofs.Common.{◌≡◌, ◌+◌, ◌-◌, ◌*◌, ◌%◌, ◌
 use Rattle.std.proofs.lemmas.Nat.{div-add-mod'}
 use Rattle.model.specs.Paper.{cells_written}
 use Rattle.pieces.specs.Store.{used, before}
-use Rattle.pieces.specs.Text.{cells_in}
+use Rattle.kept.specs.Text.{cells_in}
 use Rattle.codec.specs.Bytes.{words_bytes}
 use Rattle.codec.specs.Over.{over}
 use Rattle.saving.proofs.Runs.{writing_more, writing_done}
@@ -11,7 +11,7 @@ use Rattle.saving.proofs.write_cells.Goals as goal
 
 pub overflow_add-next : goal.overflow_add-next
 overflow_add-next c =
-    let b = before_few c.args.text.now.tables.now c.args.text.now.slots c.args.text.now.store.table.order in
+    let b = before_few c.args.text.now.tables.now c.args.text.now.slots c.args.text.now.kept.store.table.order in
     let n = c.loop-left.invariant.next in
     let m = c.min-m.ensures in
     omega arith
@@ -30,13 +30,13 @@ loop-left-preserved c =
     let sum = spot.sum in
     let within = spot.within in
     let d = div-add-mod' c.loop-left.next 4 in
-    let l = length_all text.cells.now text.tables.now text.slots text.store in
+    let l = length_all text.cells.now text.tables.now text.slots text.kept.store in
     let few : c.min-m.result ≤ c.loop-left.left = omega arith in
     let inside : c.loop-left.next + c.loop-left.left ≤ length (cells_written (cells_in text)) = omega arith in
     let e : 4 * before text.tables.now c.locate-spot.result.piece + first ≡ c.loop-left.next = omega arith in
     let fits : first + c.min-m.result ≤ 4 * used text.tables.now c.locate-spot.result.piece = omega arith in
     let room : c.write_words-at.result ≤ length c.loop-left.out = omega arith in
-    let r = piece_run text.cells.now text.tables.now text.slots text.store c.locate-spot.result.piece spot.here first c.min-m.result c.loop-left.next fits e in
+    let r = piece_run text.cells.now text.tables.now text.slots text.kept.store c.locate-spot.result.piece spot.here first c.min-m.result c.loop-left.next fits e in
     let at = c.number_of.ensures in
     let b = c.write_words-at.ensures.bytes in
     let start = 4 * c.number_of.result + first in

@@ -1,5 +1,5 @@
 use Rattle.model.specs.Paper.{cells_written}
-use Rattle.pieces.specs.Text.{cells_in}
+use Rattle.kept.specs.Text.{cells_in}
 use Rattle.saving.proofs.Runs.{Writing}
 use Rattle.saving.proofs.write_cells.Given as goal
 

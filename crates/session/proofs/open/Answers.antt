@@ -1,6 +1,7 @@
 use Rattle.std.proofs.Common.{◌≡◌, ◌+◌, ◌*◌, ◌≤◌, true, ◌&&◌, leb, [], length, drop, refl, sym, arith, leb-true}
 use Rattle.std.proofs.lemmas.List.{take_rest}
-use Rattle.pieces.specs.Store.{Store, cells_of, cleared_cells, cleared_words}
+use Rattle.kept.specs.Kept.{Kept, cleared_tables}
+use Rattle.pieces.specs.Store.{cells_of, cleared_cells}
 use Rattle.session.specs.Contract.{enough, good_limits}
 use Rattle.session.specs.Memory.{slots_for, cells_words, pieces_words, undo_words}
 use Rattle.session.proofs.Opening.{pieces_are, stands}
@@ -28,9 +29,9 @@ returns c =
     let long-ps : pieces_words m ≤ length ps = leb-true (pieces_words m) (length ps) e.0 in
     let begun = c.begin.new.pieces in
     let slots : c.slots_for-slots.result ≡ slots_for n = c.slots_for-slots.ensures.slots in
-    let clears : c.clear.new.p ≡ cleared_words (drop (16 + 2 * m) begun) (slots_for n) = rw slots at (simp take_rest at c.clear.ensures.words) in
+    let clears : c.clear.new.p ≡ cleared_tables (drop (16 + 2 * m) begun) (slots_for n) = rw slots at (simp take_rest at c.clear.ensures.words) in
     let cells : c.clear.new.c ≡ cleared_cells cs (slots_for n) = rw slots at c.clear.ensures.cells in
-    let store : Store c.clear.new.c c.clear.new.p (slots_for n) = rw slots at c.clear.ensures.store in
+    let store : Kept c.clear.new.c c.clear.new.p (slots_for n) = rw slots at c.clear.ensures.kept in
     let empty : cells_of c.clear.new.c c.clear.new.p (slots_for n) ≡ [] = rw slots at c.clear.ensures.empty in
     let long : length c.clear.new.c ≡ length cs = c.clear.auto.c in (
       rw (good, room) refl,

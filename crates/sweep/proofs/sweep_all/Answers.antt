@@ -1,7 +1,7 @@
 use Rattle.std.proofs.Common.{◌≡◌, ◌<◌, refl, ap, ◌∙◌, zero-add, below_none, below_more, arith}
 use Rattle.changes.specs.Rows.{changes_in}
 use Rattle.pieces.specs.Store.{piece, strung}
-use Rattle.pieces.proofs.Change.{frame_none, frame_both}
+use Rattle.kept.proofs.Edits.{around_none, around_both}
 use Rattle.sweep.specs.Sweep.{concerned, swept}
 use Rattle.sweep.proofs.Marks.{concerned_none, concerned_next}
 use Rattle.sweep.proofs.Runs.{strung_swept}
@@ -15,7 +15,7 @@ loop-k-init c =
       same_cells = refl;
       same_tables = refl;
       same_slots = refl;
-      frame = frame_none text.cells.now text.tables.now text.slots;
+      around = around_none text.cells.now text.tables.now text.slots;
       done = below_none (λ j. piece text.cells.now text.tables.now j ≡ swept c.args.action (changes_in c.args.row.now) (piece text.cells.now text.tables.now j));
       others = λ j l m. refl;
       count = concerned_none c.args.action;
@@ -40,7 +40,7 @@ loop-k-preserved c =
       same_cells = inv.same_cells;
       same_tables = inv.same_tables;
       same_slots = inv.same_slots;
-      frame = frame_both old.cells.now old.tables.now text.cells.now text.tables.now cells tables s inv.frame h.frame;
+      around = around_both old.cells.now old.tables.now text.cells.now text.tables.now cells tables s inv.around h.around;
       done = below_more (λ j. piece cells tables j ≡ swept c.args.action cs (piece old.cells.now old.tables.now j)) k
           (λ j l. h.others j (omega arith) (omega arith) ∙ inv.done j l)
           (h.here ∙ ap (swept c.args.action cs) (inv.others k (omega arith) here));
@@ -59,9 +59,18 @@ returns-clause-swept c =
       same_tables = inv.same_tables;
       same_slots = inv.same_slots;
       edited = record {
-        store = rw inv.same_slots at new.store;
-        frame = inv.frame;
+        kept = rw inv.same_slots at new.kept;
+        around = inv.around;
         text = strung_swept c.args.action (changes_in c.args.row.now) (piece old.cells.now old.tables.now) (piece new.cells.now new.tables.now) 0 old.slots
             (λ i l. simp zero-add (inv.done i (omega arith)));
       };
     }
+
+pub overflow_add-count : goal.overflow_add-count
+overflow_add-count c = let most = c.loop-k.text.kept.store.table.order.most in let few = c.loop-k.invariant.few in let more = c.sweep_whole-count.ensures.few in omega arith
+
+pub returns-clause-count : goal.returns-clause-count
+returns-clause-count c =
+    let inv = c.loop-k.invariant in
+    let z : c.loop-k.k ≡ c.args.text.now.slots = omega (arith, inv.same_slots) in
+    rw z at inv.count

@@ -1,6 +1,7 @@
 use Rattle.std.proofs.Common.{◌≡◌, ℕ, ◌*◌, ◌<◌, ◌≤◌}
 use Rattle.changes.specs.Rows.{changes_in}
-use Rattle.pieces.specs.Store.{piece, pieces_from, Frame}
+use Rattle.kept.specs.Kept.{Around}
+use Rattle.pieces.specs.Store.{piece, pieces_from}
 use Rattle.sweep.specs.Sweep.{concerned, swept}
 use Rattle.sweep.proofs.sweep_all.Given as goal
 
@@ -12,7 +13,7 @@ invariant-loop-k l =
       same_cells : new.cells.ghost_name ≡ old.cells.ghost_name;
       same_tables : new.tables.ghost_name ≡ old.tables.ghost_name;
       same_slots : new.slots ≡ old.slots;
-      frame : Frame old.cells.now old.tables.now new.cells.now new.tables.now old.slots;
+      around : Around old.cells.now old.tables.now new.cells.now new.tables.now old.slots;
       done : (j : ℕ) → j < l.k → piece new.cells.now new.tables.now j ≡ swept l.sweep.action (changes_in l.sweep.row) (piece old.cells.now old.tables.now j);
       others : (j : ℕ) → l.k ≤ j → j < old.slots → piece new.cells.now new.tables.now j ≡ piece old.cells.now old.tables.now j;
       count : l.count ≡ concerned l.sweep.action (pieces_from old.cells.now old.tables.now 0 l.k);

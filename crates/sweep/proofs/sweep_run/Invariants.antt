@@ -1,7 +1,8 @@
 use Rattle.std.proofs.Common.{◌≡◌, ◌+◌, ◌≤◌}
 use Rattle.changes.specs.Rows.{changes_in}
-use Rattle.pieces.specs.Store.{before, Frame}
-use Rattle.pieces.specs.Text.{cells_of_mut}
+use Rattle.kept.specs.Kept.{Around}
+use Rattle.pieces.specs.Store.{before}
+use Rattle.kept.specs.Text.{cells_of_mut}
 use Rattle.sweep.specs.Sweep.{swept_run}
 use Rattle.sweep.proofs.sweep_run.Given as goal
 
@@ -13,7 +14,7 @@ invariant-loop-left l =
       same_cells : new.cells.ghost_name ≡ old.cells.ghost_name;
       same_tables : new.tables.ghost_name ≡ old.tables.ghost_name;
       same_slots : new.slots ≡ old.slots;
-      frame : Frame old.cells.now old.tables.now new.cells.now new.tables.now old.slots;
+      around : Around old.cells.now old.tables.now new.cells.now new.tables.now old.slots;
       within : l.next + l.left ≤ before new.tables.now new.slots;
       swept : swept_run l.sweep.action (changes_in l.sweep.row) (cells_of_mut new) l.next l.left ≡ swept_run l.sweep.action (changes_in l.sweep.row) (cells_of_mut old) l.initial.next l.initial.left;
     }

@@ -1,6 +1,6 @@
 use Rattle.std.proofs.Common.{rules, ◌≡◌, ◌+◌, ◌*◌, ◌++◌, List, get_or, take, drop, arith}
 use Rattle.model.specs.Paper.{Cell, new_cells}
-use Rattle.pieces.specs.Store.{Edited}
+use Rattle.kept.specs.Text.{Edited}
 use Rattle.session.proofs.Writing.{inserted_length, restored}
 use Rattle.session.specs.Memory.{paper_of, slots_of, tables}
 use Rattle.session.proofs.cells.insert.Goals as goal

@@ -1,6 +1,6 @@
 use Rattle.std.proofs.Common.{rules, ◌≡◌, ◌+◌, ◌*◌, List, get_or, take, arith}
 use Rattle.model.specs.Paper.{Cell}
-use Rattle.pieces.specs.Store.{Edited}
+use Rattle.kept.specs.Text.{Edited}
 use Rattle.sweep.specs.Sweep.{swept_run}
 use Rattle.session.proofs.Striking.{length_swept_run}
 use Rattle.session.proofs.Writing.{restored, row_before}

@@ -50,3 +50,10 @@ loop-at-init c =
     let n = c.new-at-items.ensures in
     let e = c.into_iter-at-iterator.ensures.into_iter_gives in
     (tt, tt, ap (λ i. i.text) e ∙ n.text, ap (λ i. i.way) e ∙ n.way, sought_start _ _ _ (rw (e, n.text, n.way, n.spot) refl))
+
+pub overflow_add-next : goal.overflow_add-next
+overflow_add-next c =
+    let g = c.in-Some.ensures.steps.stands in
+    let u = c.loop-at.at-iterator.text.kept.store.table.order.small _ g.piece in
+    let o = g.offset in
+    omega arith

@@ -1,0 +1,11 @@
+pub mod Clearing
+pub mod Edits
+pub mod Framed
+pub mod Inserting
+pub mod MoveUp
+pub mod Rearranged
+pub mod Remembered
+pub mod Rewriting
+pub mod Seen
+pub mod Tallies
+pub mod Whole

@@ -1,0 +1,4 @@
+pub mod Kept
+pub mod Leaves
+pub mod Text
+pub mod Props

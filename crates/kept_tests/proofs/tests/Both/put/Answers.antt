@@ -1,0 +1,10 @@
+use Rattle.std.proofs.Common.{arith, ap, length}
+use Rattle.kept.specs.Text.{cells_of_mut}
+use Rattle.kept.proofs.Seen.{view_all}
+use Rattle.kept_tests.proofs.tests.Both.put.Goals as goal
+
+pub put-requires : goal.put-requires
+put-requires c =
+    let e = ap length (view_all (cells_of_mut c.args.self.now.text)) in
+    let n = rw (c.text.ensures.cells, c.text.ensures.tables, c.text.ensures.slots, e) at c.seen-n.ensures in
+    record { place = omega arith; few = omega arith; fits = omega (arith, c.args.self.now.five); mark = omega arith }
