@@ -1,18 +1,15 @@
--- The words of a text, and the numbers that they are.
-use Rattle.std.proofs.Common.{Bor, Option, Some, None, Ok, Err, ◌≡◌, ℕ, ◌+◌, ◌-◌, ◌*◌, ◌<◌, ◌≤◌, Bool, true, false, ◌⊎◌, List, [], ◌∷◌, ◌++◌, map, length, get_or, take, drop, set, sym, refl, ap, ◌∙◌, inl, inr, append_assoc, append-nil, arith}
-use Rattle.std.specs.Prelude.{cond, filter, ltb, MatchOption}
+-- The steps through a text, from word to word and from character to character.
+use Rattle.std.proofs.Common.{Bor, Option, Some, None, Ok, Err, ◌≡◌, ℕ, ◌+◌, ◌-◌, ◌*◌, ◌<◌, ◌≤◌, Bool, true, false, ◌⊎◌, List, [], ◌∷◌, ◌++◌, map, length, get_or, take, drop, set, sym, refl, ap, ◌∙◌, subst, inl, inr, append_assoc, append-nil, arith}
+use Rattle.std.specs.Prelude.{MatchOption}
 use Rattle.std.specs.Option.{ok_or}
-use Rattle.std.specs.List.{AllByRecursion, slice_split, onto_first}
-use Rattle.std.proofs.lemmas.List.{get_or_default, take-append-drop, length-drop, drop_more, take_more, take_all, length-append, length_push, length-map, set_at, map_push}
-use Rattle.std.proofs.lemmas.List.Splits.{slice_split-cons_yes, slice_split-cons_no, length-slice_split}
+use Rattle.std.specs.List.{AllByRecursion}
+use Rattle.std.proofs.lemmas.List.{drop_more, take_rest, length-append, length_push, length-map, take_at, set_at, map_push, get_or_at, get_or_append_left, get_or_push}
 use Rattle.std.proofs.ByRecursion.{All-push, All-get_or}
-use Rattle.std.specs.Iterator.{Yields}
-use Rattle.std.proofs.lemmas.Iterator.{YieldsList}
-use Rattle.std.proofs.lemmas.Iterator.Consumers.{YieldsList-so_far, YieldsList-turn, YieldsList-end}
-use Rattle.std.proofs.lemmas.Bool.{lt-ltb}
+use Rattle.std.proofs.lemmas.Bool.{both_ways}
 use Rattle.model.proofs.Picks.{pick_true, pick_false}
 use Rattle.file.specs.Words.{white, ended, words_after, words, value_after, value, Digit, WordFits, AllRead, Stops}
 use Rattle.file.specs.Laws.{Solid, WordsAre}
+use Rattle.file.specs.Scan.{PastWhite, NumberAt, NoNumber}
 
 -- what digits are worth, one more, and at least what the first of them are
 value_push : (v : ℕ) (w : List ℕ) (c : ℕ) → value_after v (w ++ (c ∷ [])) ≡ 10 * value_after v w + (c - 48)
@@ -47,6 +44,16 @@ ended_some : (w : List ℕ) (ws : List (List ℕ)) → 0 < length w → ended w 
 ended_some [] ws h = absurd (omega arith)
 ended_some (c ∷ w) ws h = refl
 
+-- a word that has begun is the front of the first word
+first_word : (w cs : List ℕ) → 0 < length w → (u : List ℕ) × (ws : List (List ℕ)) × (words_after w cs ≡ (w ++ u) ∷ ws)
+first_word w [] h = ([], [], words_nil w ∙ (ended_some w [] h ∙ ap (λ (v : List ℕ). v ∷ []) (sym (append-nil w))))
+first_word w (c ∷ cs) h = go (white c) refl (first_word (w ++ (c ∷ [])) cs (omega (arith, length_push w c)))
+  where
+    go : (t : Bool) → white c ≡ t → (u : List ℕ) × (ws : List (List ℕ)) × (words_after (w ++ (c ∷ [])) cs ≡ ((w ++ (c ∷ [])) ++ u) ∷ ws)
+        → (u : List ℕ) × (ws : List (List ℕ)) × (words_after w (c ∷ cs) ≡ (w ++ u) ∷ ws)
+    go true e r = ([], words cs, words_white w c cs e ∙ (ended_some w (words cs) h ∙ ap (λ (v : List ℕ). v ∷ words cs) (sym (append-nil w))))
+    go false e r = (c ∷ r.0, r.1, words_more w c cs e ∙ (r.2 ∙ ap (λ (v : List ℕ). v ∷ r.1) (append_assoc w (c ∷ []) r.0)))
+
 -- a word with no white space in it, before white space and at the end
 solid : (w u cs : List ℕ) → AllByRecursion Solid u → words_after w (u ++ cs) ≡ words_after (w ++ u) cs
 solid w [] cs h = ap (λ (v : List ℕ). words_after v cs) (sym (append-nil w))
@@ -62,141 +69,159 @@ words_are =
       first = λ w c text h s e. solid [] w (c ∷ text) s ∙ (words_white w c text e ∙ ended_some w (words text) h);
     }
 
--- the words of a text are the parts of it between white space that are not empty
-abbrev pub filled : List ℕ → Bool
-filled w = ltb 0 (length w)
+-- a text and what is left behind its first character, as the code finds it
+pub first_rest : (text : List ℕ) → 1 ≤ length text → text ≡ get_or text 0 0 ∷ take (length text - 1) (drop 1 text)
+first_rest [] h = absurd (omega arith)
+first_rest (c ∷ cs) h = ap (λ (v : List ℕ). c ∷ v) (sym (take_rest (c ∷ cs) 1))
 
--- the parts after some characters of the first of them
-parts_after : List ℕ → List (List ℕ) → List (List ℕ)
-parts_after w [] = w ∷ []
-parts_after w (p ∷ ps) = (w ++ p) ∷ ps
+pub length_rest : (text : List ℕ) → 1 ≤ length text → length (take (length text - 1) (drop 1 text)) < length text
+length_rest text h = omega (arith, ap length (first_rest text h))
 
-parts_after_none : (ps : List (List ℕ)) → 0 < length ps → parts_after [] ps ≡ ps
-unfolding parts_after
-parts_after_none [] h = absurd (omega arith)
-parts_after_none (p ∷ ps) h = refl
+-- white space stands first
+pub white_more : (c : ℕ) (left rest : List ℕ) → left ≡ c ∷ rest → white c ≡ true → words rest ≡ words left
+white_more c left rest s e = sym (ap words s ∙ words_white [] c rest e)
 
-parts_after_more : (w : List ℕ) (c : ℕ) (ps : List (List ℕ)) → parts_after (w ++ (c ∷ [])) ps ≡ parts_after w (onto_first c ps)
-unfolding parts_after
-parts_after_more w c [] = refl
-parts_after_more w c (p ∷ ps) = ap (λ (q : List ℕ). q ∷ ps) (append_assoc w (c ∷ []) p)
+-- a word has begun at the front of a text, and its digits, behind which `left` is left, are worth v
+pub record Begun (text : List ℕ) (v : ℕ) (left : List ℕ) : Type 0 where
+  pub word : List ℕ
+  pub is : text ≡ word ++ left
+  pub split : words text ≡ words_after word left
+  pub fits : WordFits word
+  pub worth : v ≡ value word
 
-parts_ended : (w : List ℕ) (ps : List (List ℕ)) → ended w (filter filled ps) ≡ filter filled ((w ++ []) ∷ ps)
-parts_ended [] ps = refl
-parts_ended (c ∷ w) ps =
-    let e : ltb 0 (length (c ∷ w)) ≡ true = lt-ltb _ _ (omega arith) in
-    ap (λ (t : Bool). cond t ((c ∷ w) ∷ filter filled ps) (filter filled ps)) (sym e) ∙ ap (λ (u : List ℕ). filter filled (u ∷ ps)) (sym (append-nil (c ∷ w)))
-
-words_parts : (w cs : List ℕ) → words_after w cs ≡ filter filled (parts_after w (slice_split white cs))
-unfolding parts_after
-words_parts w [] = words_nil w ∙ parts_ended w []
-words_parts w (c ∷ cs) = go (white c) refl (words_parts [] cs) (words_parts (w ++ (c ∷ [])) cs)
-  where
-    ps : List (List ℕ)
-    ps = slice_split white cs
-
-    go : (t : Bool) → white c ≡ t → words cs ≡ filter filled (parts_after [] ps) → words_after (w ++ (c ∷ [])) cs ≡ filter filled (parts_after (w ++ (c ∷ [])) ps)
-        → words_after w (c ∷ cs) ≡ filter filled (parts_after w (slice_split white (c ∷ cs)))
-    go true e none more =
-        words_white w c cs e
-        ∙ (ap (ended w) (none ∙ ap (filter filled) (parts_after_none ps (omega (arith, length-slice_split white cs))))
-        ∙ (parts_ended w ps ∙ ap (λ (qs : List (List ℕ)). filter filled (parts_after w qs)) (sym (slice_split-cons_yes white c cs e))))
-    go false e none more =
-        words_more w c cs e
-        ∙ (more ∙ (ap (filter filled) (parts_after_more w c ps) ∙ ap (λ (qs : List (List ℕ)). filter filled (parts_after w qs)) (sym (slice_split-cons_no white c cs e))))
-
-pub words_are_parts : (text : List ℕ) → words text ≡ filter filled (slice_split white text)
-words_are_parts text = words_parts [] text ∙ ap (filter filled) (parts_after_none (slice_split white text) (omega (arith, length-slice_split white text)))
-
--- the first i characters of a word are a number, worth v
-pub record Begun (word : List ℕ) (i v : ℕ) : Type 0 where
-  pub fits : WordFits (take i word)
-  pub worth : v ≡ value (take i word)
-
-pub begun_none : (word : List ℕ) → Begun word 0 0
+pub begun_none : (text : List ℕ) → Begun text 0 text
 unfolding value_after
-begun_none word = record { fits = record { digits = tt; small = omega arith }; worth = refl }
+begun_none text = record { word = []; is = refl; split = refl; fits = record { digits = tt; small = omega arith }; worth = refl }
 
-module _ (word : List ℕ) (i v : ℕ) (b : Begun word i v) where
-  worth_next : (h : i < length word) → value (take (i + 1) word) ≡ 10 * v + (get_or word i 0 - 48)
-  worth_next h = omega (arith, ap value (take_more word i 0 h), value_push 0 (take i word) (get_or word i 0), b.worth)
+module _ (text : List ℕ) (v : ℕ) (left : List ℕ) (b : Begun text v left) where
+  worth_next : (c : ℕ) → value (b.word ++ (c ∷ [])) ≡ 10 * v + (c - 48)
+  worth_next c = omega (arith, value_push 0 b.word c, b.worth)
 
-  pub begun_more : i < length word → (u : ℕ) → Digit (get_or word i 0) × (u ≡ 10 * v + (get_or word i 0 - 48)) × (u < 4294967296) → Begun word (i + 1) u
-  begun_more h u d =
-      let t = take_more word i 0 h in
-      record {
-        fits = record { digits = rw t (All-push Digit (take i word) (get_or word i 0) b.fits.digits d.0); small = omega (arith, worth_next h) };
-        worth = omega (arith, worth_next h);
-      }
+  module _ (c : ℕ) (rest : List ℕ) (s : left ≡ c ∷ rest) (e : white c ≡ false) where
+    begun_next : words text ≡ words_after (b.word ++ (c ∷ [])) rest
+    begun_next = b.split ∙ (ap (words_after b.word) s ∙ words_more b.word c rest e)
 
-  pub begun_bad : i < length word → (Digit (get_or word i 0) → 10 * v + (get_or word i 0 - 48) < 4294967296 → ⊥) → WordFits word → ⊥
-  begun_bad h bad g =
-      let front : value (take (i + 1) word) ≤ value (take (i + 1) word ++ drop (i + 1) word) = value_front 0 (take (i + 1) word) (drop (i + 1) word) in
-      bad (All-get_or Digit word i 0 h g.digits) (omega (arith, worth_next h, ap value (take-append-drop (i + 1) word), g.small))
+    pub begun_more : (u : ℕ) → Digit c × (u ≡ 10 * v + (c - 48)) × (u < 4294967296) → Begun text u rest
+    begun_more u d =
+        record {
+          word = b.word ++ (c ∷ []);
+          is = b.is ∙ (ap (λ (w : List ℕ). b.word ++ w) s ∙ sym (append_assoc b.word (c ∷ []) rest));
+          split = begun_next;
+          fits = record { digits = All-push Digit b.word c b.fits.digits d.0; small = omega (arith, worth_next c) };
+          worth = omega (arith, worth_next c);
+        }
 
-  pub begun_all : length word ≤ i → WordFits word × (v ≡ value word)
-  begun_all h = let t = take_all i word h in (rw t at b.fits, rw t at b.worth)
+    pub begun_bad : (Digit c → 10 * v + (c - 48) < 4294967296 → ⊥) → NoNumber text
+    begun_bad bad =
+        let w : List ℕ = b.word ++ (c ∷ []) in
+        let long : length w ≡ length b.word + 1 = length_push b.word c in
+        let f = first_word w rest (omega arith) in
+        record {
+          word = w ++ f.0;
+          more = f.1;
+          is = begun_next ∙ f.2;
+          fits = λ g.
+              let d : Digit (get_or (w ++ f.0) (length b.word) 0) = All-get_or Digit (w ++ f.0) (length b.word) 0 (omega (arith, length-append w f.0)) g.digits in
+              let a : get_or (w ++ f.0) (length b.word) 0 ≡ c = get_or_append_left w f.0 0 (length b.word) (omega arith) ∙ get_or_push b.word c 0 (length b.word) refl in
+              bad (rw a at d) (omega (arith, g.small, value_front 0 w f.0, worth_next c));
+        }
 
--- the words `done` were read, the first of a text
-pub record Reads (old out : List ℕ) (done : List (List ℕ)) (count : ℕ) : Type 0 where
+-- a word that has begun is over before white space and at the end
+word_over : (w left : List ℕ) → 0 < length w → (1 ≤ length left → white (get_or left 0 0) ≡ true) → words_after w left ≡ w ∷ words left
+word_over w [] pos e = words_nil w ∙ (ended_some w [] pos ∙ ap (λ (ws : List (List ℕ)). w ∷ ws) (sym (words_nil [])))
+word_over w (c ∷ cs) pos e =
+    let t : white c ≡ true = e (omega arith) in
+    words_white w c cs t ∙ (ended_some w (words cs) pos ∙ ap (λ (ws : List (List ℕ)). w ∷ ws) (sym (words_white [] c cs t)))
+
+-- it has begun, as no white space stands first
+has_begun : (text w left : List ℕ) → text ≡ w ++ left → 0 < length text → white (get_or text 0 0) ≡ false → (1 ≤ length left → white (get_or left 0 0) ≡ true) → 0 < length w
+has_begun text [] left s h n e = absurd (both_ways (white (get_or text 0 0)) n (rw s (e (omega (arith, ap length s)))))
+has_begun text (c ∷ w) left s h n e = omega arith
+
+pub begun_end : (text : List ℕ) (v : ℕ) (left : List ℕ) → Begun text v left → 0 < length text → white (get_or text 0 0) ≡ false → (1 ≤ length left → white (get_or left 0 0) ≡ true)
+    → NumberAt text v left
+begun_end text v left b h n e =
+    let pos = has_begun text b.word left b.is h n e in
+    record { word = b.word; is = b.split ∙ word_over b.word left pos e; fits = b.fits; worth = b.worth; shorter = omega (arith, ap length b.is, length-append b.word left) }
+
+-- nothing is left
+words_none : (left : List ℕ) → length left ≤ 0 → words left ≡ []
+words_none [] h = words_nil []
+words_none (c ∷ cs) h = absurd (omega arith)
+
+-- what `ok_or` makes of what begins a text
+pub answered_none : (text : List ℕ) (o : Option (ℕ × Bor (List ℕ))) (n e : ℕ) → ok_or o n ≡ Err e → MatchOption o (NoNumber text) (λ p. NumberAt text p.0 p.1.now)
+    → NoNumber text × (e ≡ n)
+answered_none text None n e is p = (p, cc)
+answered_none text (Some a) n e is q = cc
+
+pub answered_some : (text : List ℕ) (o : Option (ℕ × Bor (List ℕ))) (n : ℕ) (a : ℕ × Bor (List ℕ)) → ok_or o n ≡ Ok a
+    → MatchOption o (NoNumber text) (λ p. NumberAt text p.0 p.1.now) → NumberAt text a.0 a.1.now
+answered_some text (Some b) n a is q = let e : b ≡ a = cc in subst (λ (p : ℕ × Bor (List ℕ)). NumberAt text p.0 p.1.now) e q
+answered_some text None n a is p = cc
+
+-- the first `count` words were read, and `left` is left
+pub record Reads (text old out left : List ℕ) (count : ℕ) : Type 0 where
+  pub done : List (List ℕ)
+  pub split : words text ≡ done ++ words left
   pub long : length done ≡ count
   pub fit : AllByRecursion WordFits done
   pub wrote : out ≡ map value done ++ drop count old
   pub room : count ≤ length old
+  pub next : 0 < length left → white (get_or left 0 0) ≡ false
 
-pub reads_more : (old out : List ℕ) (xs : List (Bor (List ℕ))) (count : ℕ) → Reads old out (map (λ w. w.now) xs) count → (x : Bor (List ℕ)) (v : ℕ) → count < length out
-    → WordFits x.now × (v ≡ value x.now) → Reads old (set out count v) (map (λ w. w.now) (xs ++ (x ∷ []))) (count + 1)
-reads_more old out xs count r x v h n =
-    let done : List (List ℕ) = map (λ w. w.now) xs in
-    let front : length (map value done) ≡ count = length-map done value ∙ r.long in
-    let l : count < length old = omega (arith, ap length r.wrote, length-append (map value done) (drop count old), length-drop count old) in
-    let d = drop_more old count 0 l in
-    let s : set (map value done ++ (get_or old count 0 ∷ drop (count + 1) old)) count v ≡ map value done ++ (v ∷ drop (count + 1) old) =
-    set_at (map value done) (get_or old count 0) (drop (count + 1) old) v count front in
-    let m = map_push value done x.now in
-    let a = append_assoc (map value done) (value x.now ∷ []) (drop (count + 1) old) in
-    let w = r.wrote in
-    let u = n.1 in
-    rw (map_push (λ (w : Bor (List ℕ)). w.now) xs x)
-    (record {
-      long = omega (arith, r.long, length_push done x.now);
-      fit = All-push WordFits done x.now r.fit n.0;
-      wrote = cc;
-      room = omega arith;
-    })
-
--- what `ok_or` makes of an answer
-pub answered_none : (w : List ℕ) (o : Option ℕ) (n e : ℕ) → ok_or o n ≡ Err e → MatchOption o (WordFits w → ⊥) (λ v. WordFits w × (v ≡ value w)) → (WordFits w → ⊥) × (e ≡ n)
-answered_none w None n e is p = (p, cc)
-answered_none w (Some v) n e is q = cc
-
-pub answered_some : (w : List ℕ) (o : Option ℕ) (n v : ℕ) → ok_or o n ≡ Ok v → MatchOption o (WordFits w → ⊥) (λ v. WordFits w × (v ≡ value w)) → WordFits w × (v ≡ value w)
-answered_some w (Some u) n v is q = (q.0, cc)
-answered_some w None n v is p = cc
-
--- the words xs of a text came, and were read; o comes next
-module _ {S : Type 0} {steps : S → Option (Bor (List ℕ)) → S → Type 0} {s : S} (text : List ℕ) (e : YieldsList steps (λ w. w.now) s (filter filled (slice_split white text)))
-    (old out : List ℕ) (xs : List (Bor (List ℕ))) (count : ℕ) (t : S) (y : Yields steps s xs t) (r : Reads old out (map (λ w. w.now) xs) count) (o : Option (Bor (List ℕ))) (u : S)
-    (step : steps t o u) where
-  pub reads_all : o ≡ None → AllRead text old out count
-  reads_all is =
-      let d : map (λ w. w.now) xs ≡ words text = (YieldsList-end e xs t y o u is step).0 ∙ sym (words_are_parts text) in
-      record { count = ap length (sym d) ∙ r.long; room = r.room; fit = rw d at r.fit; wrote = rw d at r.wrote }
-
-  -- there is no room for the word, or it is no number
-  pub stops : (x : Bor (List ℕ)) → o ≡ Some x → (count ≡ length out) ⊎ (WordFits x.now → ⊥) → Stops text old out count
-  stops x is why =
-      let n : length xs ≡ count = sym (length-map xs (λ w. w.now)) ∙ r.long in
-      let d : map (λ w. w.now) xs ≡ take count (words text) = rw (n, sym (words_are_parts text)) at (YieldsList-so_far e xs t y) in
-      let h : (count < length (words text)) × (x.now ≡ get_or (words text) count x.now) = rw (n, sym (words_are_parts text)) at (YieldsList-turn e xs t y o u x is step) in
+module _ (text old out left : List ℕ) (count : ℕ) (r : Reads text old out left count) where
+  pub reads_more : count < length old → (v : ℕ) (rest left' : List ℕ) → NumberAt left v rest → PastWhite rest left' → Reads text old (set out count v) left' (count + 1)
+  reads_more h v rest left' n p =
+      let done : List (List ℕ) = r.done ++ (n.word ∷ []) in
+      let d = drop_more old count 0 h in
+      let front : length (map value r.done) ≡ count = length-map r.done value ∙ r.long in
+      let s : set (map value r.done ++ (get_or old count 0 ∷ drop (count + 1) old)) count v ≡ map value r.done ++ (v ∷ drop (count + 1) old) =
+      set_at (map value r.done) (get_or old count 0) (drop (count + 1) old) v count front in
+      let m = map_push value r.done n.word in
+      let a = append_assoc (map value r.done) (value n.word ∷ []) (drop (count + 1) old) in
+      let w = r.wrote in
+      let u = n.worth in
+      let t = append_assoc r.done (n.word ∷ []) (words left') in
+      let k = r.split in
+      let i = n.is in
+      let q = p.same in
       record {
-        within = h.0;
-        room = r.room;
-        fit = rw d at r.fit;
-        wrote = rw d at r.wrote;
-        why =
-            elim why [
-              | inl full ↦ inl (omega (arith, ap length r.wrote, length-append (map value (map (λ w. w.now) xs)) (drop count old), length-drop count old, length-map (map (λ w. w.now) xs) value, r.long))
-              | inr bad ↦ inr (rw (h.1 ∙ get_or_default (words text) count x.now [] h.0) at bad)
-            ];
+        done = done;
+        split = cc;
+        long = omega (arith, r.long, length_push r.done n.word);
+        fit = All-push WordFits r.done n.word r.fit n.fits;
+        wrote = cc;
+        room = omega arith;
+        next = p.next;
       }
+
+  pub reads_all : length left ≤ 0 → AllRead text old out count
+  reads_all h =
+      let d : words left ≡ [] = words_none left h in
+      let e : words text ≡ r.done = r.split ∙ (ap (λ (ws : List (List ℕ)). r.done ++ ws) d ∙ append-nil r.done) in
+      record { count = ap length e ∙ r.long; room = r.room; fit = rw e r.fit; wrote = rw e r.wrote }
+
+  -- the next word, where there is no room for it or it is no number
+  stops : (word : List ℕ) (more : List (List ℕ)) → words left ≡ word ∷ more → (count ≡ length old) ⊎ (WordFits word → ⊥) → Stops text old out count
+  stops word more e why =
+      let s : words text ≡ r.done ++ (word ∷ more) = r.split ∙ ap (λ (ws : List (List ℕ)). r.done ++ ws) e in
+      let t : take count (words text) ≡ r.done = ap (take count) s ∙ take_at r.done (word ∷ more) count r.long in
+      let g : get_or (words text) count [] ≡ word = ap (λ (ws : List (List ℕ)). get_or ws count []) s ∙ get_or_at r.done word more [] count r.long in
+      record {
+        within = omega (arith, ap length s, length-append r.done (word ∷ more), r.long);
+        room = r.room;
+        fit = rw t r.fit;
+        wrote = rw t r.wrote;
+        why = rw g why;
+      }
+
+  pub reads_full : count ≡ length old → 0 < length left → Stops text old out count
+  reads_full e h =
+      let c : ℕ = get_or left 0 0 in
+      let rest : List ℕ = take (length left - 1) (drop 1 left) in
+      let f = first_word (c ∷ []) rest (omega arith) in
+      stops ((c ∷ []) ++ f.0) f.1 (ap words (first_rest left h) ∙ (words_more [] c rest (r.next h) ∙ f.2)) (inl e)
+
+  pub reads_bad : NoNumber left → Stops text old out count
+  reads_bad n = stops n.word n.more n.is (inr n.fits)

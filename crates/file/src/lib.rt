@@ -1,11 +1,12 @@
 // A paper's file: the numbers in a text, and the paper that some numbers are.
 #![tactic(auto)]
 
-ghost use Rattle.std.specs.Prelude.{◌≡◌, ◌+◌, ◌-◌, ◌*◌, ◌<◌, length, Ok, Err, MatchBool, MatchOption, MatchResult, slice_index, slice_index_or};
+ghost use Rattle.std.specs.Prelude.{◌≡◌, ◌+◌, ◌-◌, ◌*◌, ◌<◌, false, length, Ok, Err, MatchBool, MatchOption, MatchResult, slice_index, slice_index_or};
 ghost use Rattle.file.specs.Laws.{OneWay, ReadsBack, WordsAre};
 ghost use Rattle.file.specs.Paper.{Ceases, IsFile};
 ghost use Rattle.file.specs.Places.{MarkFits, NumberFits, last};
-ghost use Rattle.file.specs.Words.{AllRead, Digit, Stops, WordFits, value, white};
+ghost use Rattle.file.specs.Scan.{NoNumber, NumberAt, PastWhite};
+ghost use Rattle.file.specs.Words.{AllRead, Digit, Stops, white};
 ghost use Rattle.model.specs.Paper.{Cell as PaperCell, Change as PaperChange};
 ghost use Rattle.model.specs.Values.{cell_of, change_of};
 
@@ -33,15 +34,35 @@ fn with_digit(value: u32, c: u8) -> Option<u32>
     u32::try_from(10 * u64::from(value) + u64::from(c - b'0')).ok()
 }
 
-// What a word is worth, if it is a number below 2^32.
-fn number_of(word: &[u8]) -> Option<u32>
-    ensures { MatchOption result (WordFits word.now → ⊥) (λ v. WordFits word.now × (v ≡ value word.now)) }
+// What is left of a text behind the white space that it begins with.
+fn past_white(text: &[u8]) -> &[u8]
+    ensures { PastWhite text.now result.now }
+{
+    let mut left = text;
+    // Here and in `number`, what is left gets shorter byte by byte, and a byte may end the loop: no iterator gives what is left.
+    while let [c, rest @ ..] = left
+        && is_white(*c)
+    {
+        left = rest;
+    }
+    left
+}
+
+// The number below 2^32 that the first word of a text is, and what is left behind it. Where that word is none, nothing behind the byte that shows it is read.
+fn number(text: &[u8]) -> Option<(u32, &[u8])>
+    requires some { 0 < length text.now }
+    requires word { white (slice_index text.now 0) ≡ false }
+    ensures { MatchOption result (NoNumber text.now) (λ p. NumberAt text.now p.0 p.1.now) }
 {
     let mut value = 0;
-    for c in word {
+    let mut left = text;
+    while let [c, rest @ ..] = left
+        && !is_white(*c)
+    {
         value = with_digit(value, *c)?;
+        left = rest;
     }
-    Some(value)
+    Some((value, left))
 }
 
 // Writes the numbers of a text, one after another, and says how many there are. They are digits, the first of which may be 0, and white space parts them.
@@ -52,12 +73,15 @@ pub fn numbers(text: &[u8], out: &mut [u32]) -> Result<usize, usize>
 {
     // Counted by hand, as the count is also the answer once the words end.
     let mut count = 0;
-    for word in text.split(|c| is_white(*c)).filter(|word| !word.is_empty()) {
+    let mut left = past_white(text);
+    while !left.is_empty() {
         if count == out.len() {
             return Err(count);
         }
-        out[count] = number_of(word).ok_or(count)?;
+        let (n, rest) = number(left).ok_or(count)?;
+        out[count] = n;
         count += 1;
+        left = past_white(rest);
     }
     Ok(count)
 }

@@ -1,10 +1,10 @@
--- The words that came were read.
-use Rattle.std.proofs.Common.{map}
+-- The first words were read, and the others are left.
+use Rattle.std.proofs.Common.{length}
 use Rattle.file.proofs.WordSteps.{Reads}
 use Rattle.file.proofs.numbers.Given as goal
 
-abbrev pub invariant-loop-word : goal.invariant-loop-word
-invariant-loop-word l =
-    (goal.iterator-loop-word).can_next l.word-iterator
-    × (goal.iterator-loop-word).is_finite l.word-iterator
-    × Reads l.initial.out l.out (map (λ w. w.now) l.yielded) l.count
+abbrev pub invariant-loop-left : goal.invariant-loop-left
+invariant-loop-left l = Reads l.text l.initial.out l.out l.left l.count
+
+abbrev pub decreases-loop-left : goal.decreases-loop-left
+decreases-loop-left l = length l.left
