@@ -1,6 +1,7 @@
 -- One write after another, and how many bytes answers have.
 use Rattle.std.proofs.Common.{◌≡◌, ℕ, suc, ◌+◌, ◌*◌, ◌/◌, ◌%◌, ◌^◌, ◌<◌, ◌≤◌, List, [], ◌∷◌, ◌++◌, length, get_or, take, drop, set, sym, refl, ap, ◌∙◌, append_assoc, append-nil, add-zero, zero-add, mul-suc, add-one, arith, length-append}
-use Rattle.std.proofs.lemmas.List.{length-take-le, take_at, drop_at, drop-drop, set_split, take-append-drop}
+use Rattle.std.proofs.lemmas.List.{length-take-le, length-drop, take_at, drop_at, drop-drop, set_split, take-append-drop}
+use Rattle.std.proofs.lemmas.List.Edits.{sets, sets-eq}
 use borrow.Rule.Slice.PartMut.{put_mid}
 use Rattle.model.specs.Paper.{Cell}
 use Rattle.codec.specs.Bytes.{word_bytes, words_bytes, cells_bytes, rows_bytes}
@@ -8,7 +9,7 @@ use Rattle.codec.specs.Over.{over}
 
 -- n is the place after what was written
 module _ (out : List ℕ) (at : ℕ) (bs : List ℕ) (n : ℕ) (e : n ≡ at + length bs) (fits : n ≤ length out) where
-  take_over : take n (over out at bs) ≡ take at out ++ bs
+  pub take_over : take n (over out at bs) ≡ take at out ++ bs
   unfolding over
   take_over =
       let h : at ≤ length out = omega arith in
@@ -17,7 +18,7 @@ module _ (out : List ℕ) (at : ℕ) (bs : List ℕ) (n : ℕ) (e : n ≡ at + l
       let a = append_assoc (take at out) bs (drop (at + length bs) out) in
       cc
 
-  drop_over : drop n (over out at bs) ≡ drop n out
+  pub drop_over : drop n (over out at bs) ≡ drop n out
   unfolding over
   drop_over =
       let h : at ≤ length out = omega arith in
@@ -25,6 +26,12 @@ module _ (out : List ℕ) (at : ℕ) (bs : List ℕ) (n : ℕ) (e : n ≡ at + l
       let t = drop_at (take at out ++ bs) (drop (at + length bs) out) n l in
       let a = append_assoc (take at out) bs (drop (at + length bs) out) in
       cc
+
+  pub length_over : length (over out at bs) ≡ length out
+  unfolding over
+  length_over =
+      let h : at ≤ length out = omega arith in
+      simp (length-append, length-take-le, length-drop) (omega arith)
 
   -- what is written next continues it
   pub over_more : (cs : List ℕ) → over (over out at bs) n cs ≡ over out at (bs ++ cs)
@@ -57,6 +64,10 @@ pub set_over : (out : List ℕ) (at b : ℕ) → at < length out → set out at 
 unfolding over
 set_over out at b h = simp (set_split out at b h, add-one)
 
+pub sets_over : (out : List ℕ) (at : ℕ) (bs : List ℕ) → at + length bs ≤ length out → sets out at bs ≡ over out at bs
+unfolding over
+sets_over out at bs h = let s = sets-eq bs out at h in let a = append_assoc (take at out) bs (drop (at + length bs) out) in cc
+
 -- what a part of the lent bytes holds now is written over them
 pub lent_over : (out : List ℕ) (at k : ℕ) (bs : List ℕ) → k ≡ length bs → put_mid at k out bs ≡ over out at bs
 unfolding over
@@ -80,22 +91,47 @@ unfolding cells_bytes words_bytes word_bytes
 length_cells_bytes [] = refl
 length_cells_bytes (x ∷ xs) = let ih = length_cells_bytes xs in omega arith
 
--- the bytes of one number more at the end
-words_bytes_push : (ns : List ℕ) (n : ℕ) → words_bytes (ns ++ (n ∷ [])) ≡ words_bytes ns ++ word_bytes n
+-- and those of one more at the end
+pub words_bytes_push : (ns : List ℕ) (n : ℕ) → words_bytes (ns ++ (n ∷ [])) ≡ words_bytes ns ++ word_bytes n
 unfolding words_bytes
 words_bytes_push [] n = append-nil (word_bytes n)
 words_bytes_push (m ∷ ns) n = ap (λ l. word_bytes m ++ l) (words_bytes_push ns n) ∙ sym (append_assoc (word_bytes m) (words_bytes ns) (word_bytes n))
 
--- the step of a caller that writes a row of numbers, after what it had written before
-pub words_step : (out : List ℕ) (at : ℕ) (before ns : List ℕ) (n : ℕ) {place : ℕ} {first second : List ℕ} → first ≡ over out at (before ++ words_bytes ns)
-    → place ≡ at + (length before + 4 * length ns) → place ≤ length out → second ≡ over first place (word_bytes n)
-    → second ≡ over out at (before ++ words_bytes (ns ++ (n ∷ [])))
-words_step out at before ns n {place} f e fits g =
-    let l : place ≡ at + length (before ++ words_bytes ns) = simp (length-append, length_words_bytes) e in
-    let s = over_step out at (before ++ words_bytes ns) (word_bytes n) f l fits g in
-    let a = append_assoc before (words_bytes ns) (word_bytes n) in
-    let p = words_bytes_push ns n in
-    cc
+pub cells_bytes_push : (xs : List Cell) (x : Cell) → cells_bytes (xs ++ (x ∷ [])) ≡ cells_bytes xs ++ cells_bytes (x ∷ [])
+unfolding cells_bytes words_bytes word_bytes
+cells_bytes_push [] x = refl
+cells_bytes_push (y ∷ xs) x = rw (cells_bytes_push xs x)
+
+pub rows_bytes_push : (rs : List (List Cell)) (r : List Cell) → rows_bytes (rs ++ (r ∷ [])) ≡ rows_bytes rs ++ (word_bytes (length r) ++ cells_bytes r)
+unfolding rows_bytes
+rows_bytes_push [] r = simp append-nil
+rows_bytes_push (q ∷ rs) r = simp (rows_bytes_push rs r, append_assoc)
+
+-- The steps of a caller, after what it had written before: a number of a row of numbers, a cell of a row, and the end of a row, whose count
+-- stands before its cells.
+module _ (out : List ℕ) (at : ℕ) (before : List ℕ) where
+  pub words_step : (ns : List ℕ) (n : ℕ) {place : ℕ} {first second : List ℕ} → first ≡ over out at (before ++ words_bytes ns) → place ≡ at + (length before + 4 * length ns)
+      → place ≤ length out → second ≡ over first place (word_bytes n) → second ≡ over out at (before ++ words_bytes (ns ++ (n ∷ [])))
+  words_step ns n {place} f e fits g =
+      let l : place ≡ at + length (before ++ words_bytes ns) = simp (length-append, length_words_bytes) e in
+      let s = over_step out at (before ++ words_bytes ns) (word_bytes n) f l fits g in
+      let a = append_assoc before (words_bytes ns) (word_bytes n) in
+      let p = words_bytes_push ns n in
+      cc
+
+  pub cells_step : (xs : List Cell) (x : Cell) {place : ℕ} {first second : List ℕ} → first ≡ over out at (before ++ cells_bytes xs)
+      → place ≡ at + (length before + 16 * length xs) → place ≤ length out → second ≡ over first place (cells_bytes (x ∷ []))
+      → second ≡ over out at (before ++ cells_bytes (xs ++ (x ∷ [])))
+  cells_step xs x {place} f e fits g =
+      let l : place ≡ at + length (before ++ cells_bytes xs) = simp (length-append, length_cells_bytes) e in
+      let s = over_step out at (before ++ cells_bytes xs) (cells_bytes (x ∷ [])) f l fits g in
+      let a = append_assoc before (cells_bytes xs) (cells_bytes (x ∷ [])) in
+      let p = cells_bytes_push xs x in
+      cc
+
+pub rows_step : (before : List ℕ) (rs : List (List Cell)) (r : List Cell)
+    → ((before ++ rows_bytes rs) ++ word_bytes (length r)) ++ cells_bytes r ≡ before ++ rows_bytes (rs ++ (r ∷ []))
+rows_step before rs r = simp (append_assoc, rows_bytes_push)
 
 -- rows of at most w cells
 pub rows_bytes_fit : (w : ℕ) (rs : List (List Cell)) → ((i : ℕ) → i < length rs → length (get_or rs i []) ≤ w) → length (rows_bytes rs) ≤ (4 + 16 * w) * length rs

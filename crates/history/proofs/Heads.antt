@@ -1,15 +1,38 @@
 -- That an entry is written and read by its head, and where its letters, cells and marks stand.
-use Rattle.std.proofs.Common.{◌≡◌, ℕ, zero, suc, ◌+◌, ◌-◌, ◌*◌, ◌<◌, ◌≤◌, List, [], ◌∷◌, ◌++◌, length, get_or, take, drop, sym, refl, ap, ◌∙◌, subst, arith}
+use Rattle.std.proofs.Common.{◌≡◌, ℕ, zero, suc, ◌+◌, ◌-◌, ◌*◌, ◌<◌, ◌≤◌, List, [], ◌∷◌, ◌++◌, length, get_or, take, drop, set, sym, refl, ap, ◌∙◌, subst, arith}
 use Rattle.std.specs.List.{between}
-use Rattle.std.proofs.lemmas.List.{get_or-take, get_or-drop, length-set, length-take-le, take_at, drop_at, take-take, take-set-le, drop-set-lt, get_or-set_same, drop_more, drop-drop, drop-take}
-use Rattle.std.proofs.lemmas.List.Edits.{get_or-between, between_more, between_none}
+use Rattle.std.proofs.lemmas.List.{append_assoc, get_or-take, get_or-drop, length-set, length-take-le, take_at, drop_at, take-take, take-set-le, drop-set-lt, get_or-set_same, drop_more, drop-drop, drop-take}
+use Rattle.std.proofs.lemmas.List.Edits.{sets-eq, get_or-between, between_more, between_none}
 use Rattle.model.specs.Paper.{Cell, cells_written}
 use Rattle.history.specs.Entry.{Mark, Entry, was_put, was_struck, was_accepted, was_rejected, was_styled}
 use Rattle.history.specs.Words.{marks_written, head_words, payload_words, entry_size, entry_words}
-use Rattle.history.specs.Head.{kind_at, head_of, head_list, head_at, HeadReads, EntryWritten, EntryStands, PayloadStands, LetterStands, CellAt, MarkAt, CellsStand, MarksStand, CellsMake, MarksMake, WrittenLong}
+use Rattle.history.specs.Head.{kind_number, kind_at, head_of, head_list, head_at, HeadReads, EntryWritten, EntryStands, PayloadStands, LetterStands, CellAt, MarkAt, CellsStand, MarksStand, CellsMake, MarksMake, WrittenLong}
 use Rattle.history.specs.declared.entry.Head.{Head}
 use Rattle.history.specs.declared.entry.Kind.{Kind}
 use Rattle.history.proofs.Logging.{there, between_join, between_below, length_cells_written, length_marks_written}
+
+-- seven words in a row
+seven_set :
+    (u : List ℕ) (i a b c d e f g : ℕ) → i + 7 ≤ length u →
+    set (set (set (set (set (set (set u i a) (i + 1) b) (i + 2) c) (i + 3) d) (i + 4) e) (i + 5) f) (i + 6) g
+    ≡ take i u ++ ((a ∷ (b ∷ (c ∷ (d ∷ (e ∷ (f ∷ (g ∷ []))))))) ++ drop (i + 7) u)
+seven_set u i a b c d e f g h =
+    let e1 : i + 1 ≡ suc i = omega arith in
+    let e2 : i + 2 ≡ suc (suc i) = omega arith in
+    let e3 : i + 3 ≡ suc (suc (suc i)) = omega arith in
+    let e4 : i + 4 ≡ suc (suc (suc (suc i))) = omega arith in
+    let e5 : i + 5 ≡ suc (suc (suc (suc (suc i)))) = omega arith in
+    let e6 : i + 6 ≡ suc (suc (suc (suc (suc (suc i))))) = omega arith in
+    let vs : List ℕ = a ∷ (b ∷ (c ∷ (d ∷ (e ∷ (f ∷ (g ∷ [])))))) in
+    rw (e1, e2, e3, e4, e5, e6) (sets-eq vs u i h ∙ append_assoc (take i u) vs (drop (i + 7) u))
+
+pub head_set :
+    (u : List ℕ) (i : ℕ) (h : Head) (k : ℕ) → k ≡ kind_number h.kind → i + 7 ≤ length u →
+    set (set (set (set (set (set (set u i h.size) (i + 1) h.count) (i + 2) k) (i + 3) h.who) (i + 4) h.place) (i + 5) h.standing) (i + 6) h.style
+    ≡ take i u ++ (head_list h ++ drop (i + 7) u)
+head_set u i h k e b =
+    seven_set u i h.size h.count k h.who h.place h.standing h.style b
+    ∙ ap (λ x. take i u ++ ((h.size ∷ (h.count ∷ (x ∷ (h.who ∷ (h.place ∷ (h.standing ∷ (h.style ∷ []))))))) ++ drop (i + 7) u)) e
 
 -- a head with the kind that its word tells
 abbrev with_kind : List ℕ → ℕ → Kind → Head
@@ -24,8 +47,12 @@ with_kind ws a k =
       style = get_or ws (a + 6) 0;
     }
 
-pub head_made : (u ws : List ℕ) (a : ℕ) (k : Kind) → ws ≡ take (length u - a) (drop a u) → a + 7 ≤ length u → k ≡ kind_at (get_or ws 2 0) → with_kind ws 0 k ≡ head_at u a
-head_made u ws a k w l e =
+pub head_made : (ws : List ℕ) (a : ℕ) (k : Kind) → k ≡ kind_at (get_or ws (a + 2) 0) → with_kind ws a k ≡ head_at ws a
+head_made ws a k e = ap (with_kind ws a) e
+
+-- and from a part of the words
+pub head_made_part : (u ws : List ℕ) (a : ℕ) (k : Kind) → ws ≡ take (length u - a) (drop a u) → a + 7 ≤ length u → k ≡ kind_at (get_or ws 2 0) → with_kind ws 0 k ≡ head_at u a
+head_made_part u ws a k w l e =
     let at : (j : ℕ) → j < 7 → get_or ws j 0 ≡ get_or u (a + j) 0 =
     λ j b. ap (λ (xs : List ℕ). get_or xs j 0) w ∙ (get_or-take (length u - a) (drop a u) j 0 (omega arith) ∙ get_or-drop a u j 0) in
     let z : a + 0 ≡ a = omega arith in

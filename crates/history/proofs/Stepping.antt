@@ -4,9 +4,9 @@ use lib.Dec.{eqb-suc-zero, leb-zero}
 use Rattle.std.proofs.lemmas.Bool.{leb-true, leb-false, ltb-true, eqb-true, false≢true, and_parts}
 use Rattle.model.specs.Paper.{pick, Paper}
 use Rattle.model.specs.Calls.{Call, put, strikes, accepts, rejects, styles, undo, redo, show, find, count, change, save, number, Before, Desk, Limits, became, call_number, good_fields, good_call, turned_by, writes, rewritten, how_much, remembered, undone, redone, moved, changed, fits, turned, after, told, ran, new_desk}
-use Rattle.history.specs.Entry.{Entry, was_put, was_struck, was_accepted, was_rejected, was_styled, counts, much_of, call_of, entry_of, undo_of, redo_of, Can}
+use Rattle.history.specs.Entry.{Entry, was_put, was_struck, was_accepted, was_rejected, was_styled, counts, much_of, call_of, entry_of, undo_of, redo_of, Can, UndoCan}
 use Rattle.history.specs.Steps.{past_of, future_of, desk_of, all_count, kept, Made, SaneBack, SaneAhead, Sane, StandsFor, KeptRemembered, KeptWithin, KeptAll, KeptForgets, Opens, WriteSteps, UndoSteps, RedoSteps, UndoTurned, RedoTurned, TurnedKeeps, LookingKeeps, AlwaysStands}
-use Rattle.history.proofs.Undoing.{undo_brings_back, much_of_entry, call_of_entry}
+use Rattle.history.proofs.Undoing.{undo_brings_back, undo_finds, much_of_entry, call_of_entry}
 
 -- A test, and what it says, as cases.
 by_leb : (P : Bool → Type 0) (a b : ℕ) → (a ≤ b → P true) → (b < a → P false) → P (leb a b)
@@ -135,6 +135,11 @@ module _ (l : Limits) (e : Entry) (before next : Paper) (m : Made l e before nex
 
   pub made_fits : fits l next ≡ true
   made_fits = subst (λ p. fits l p ≡ true) m.paper (not_turned l (desk_of before [] []) (call_of e) m.allowed).2
+
+  pub made_finds : UndoCan e next
+  made_finds =
+      let u = undo_finds before (call_of e) made_can in
+      subst (λ (x : Paper). UndoCan e x) m.paper (subst (λ (x : Entry). UndoCan x (rewritten before (call_of e))) m.entry u)
 
 -- A desk that a paper and its entries stand for is that of the paper and the entries.
 the_desk : (l : Limits) (p : Paper) (back ahead : List Entry) (d : Desk) → StandsFor l p back ahead d → desk_of p back ahead ≡ d

@@ -278,3 +278,20 @@ run_back_edits i k old xs h =
     let t : take i (take i xs ++ drop (i + k) xs) ≡ take i xs = take_at (take i xs) (drop (i + k) xs) i (length-take-le i xs h) in
     let d : drop i (take i xs ++ drop (i + k) xs) ≡ drop (i + k) xs = drop_at (take i xs) (drop (i + k) xs) i (length-take-le i xs h) in
     cc
+
+-- one mark adds a cell if it went, and marks never take one away
+pub length_mark_back : (w : Bool) (m : Mark) (xs : List Cell) → m.place + pick {A = ℕ} w 0 1 ≤ length xs →
+    length (mark_back w m xs) ≡ length xs + pick {A = ℕ} w 1 0
+length_mark_back true m xs h =
+    let n = length_front xs (m.cell ∷ drop m.place xs) m.place (omega arith) in
+    let k = length-drop m.place xs in
+    omega arith
+length_mark_back false m xs h = length-set xs m.place m.cell ∙ omega arith
+
+pub length_marks_back : (went : Cell → Bool) (ms : List Mark) (xs : List Cell) → Placed went ms (length xs) → length xs ≤ length (marks_back went ms xs)
+unfolding marks_back Placed
+length_marks_back went [] xs h = omega arith
+length_marks_back went (m ∷ ms) xs h =
+    let n = length_mark_back (went m.cell) m xs h.0 in
+    let ih = length_marks_back went ms (mark_back (went m.cell) m xs) (subst (Placed went ms) (sym n) h.1) in
+    omega arith

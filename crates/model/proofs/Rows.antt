@@ -205,6 +205,12 @@ rows_step w (x ∷ xs) h k =
     let f = step_moves w (x ∷ xs) h k in
     ap (λ (r : List (List Cell)). take (cut w (x ∷ xs)).long (x ∷ xs) ∷ r) (rows_enough (length xs) w (drop (step w (x ∷ xs)) (x ∷ xs)) h (omega arith))
 
+-- The rows after the first n are the rows of what is left after n rows.
+pub rest_none : (w n : ℕ) → rest w n [] ≡ []
+unfolding rest
+rest_none w zero = refl
+rest_none w (suc n) = rw (rest_none w n) (drop-nil (step w []))
+
 rows_next : (w : ℕ) (xs : List Cell) → 0 < w → drop 1 (rows w xs) ≡ rows w (drop (step w xs) xs)
 rows_next w [] h = rw (drop-nil (step w []), rows_none w)
 rows_next w (x ∷ xs) h = rw (rows_step w (x ∷ xs) h (omega arith))

@@ -37,6 +37,10 @@ written c d p q s k o at x st l m e w h grown mk =
     (resized_grown p p q k (used p k) (omega arith) (resized_none p k) grown) in
     (g, changed_store c p d q s k o 1 (x ∷ []) st l g (sums_beside p q grown.beside st.table.sums) (mk, tt))
 
+-- the first m of n cells and the others
+pub halves : (new : List ℕ) (from m n : ℕ) → m ≤ n → cells_at new from m ++ cells_at new (from + m) (n - m) ≡ cells_at new from n
+halves new from m n l = let e : m + (n - m) ≡ n = omega arith in sym (cells_split new from m (n - m)) ∙ ap (cells_at new from) e
+
 -- only words of sets have changed
 module _ (c p q : List ℕ) (s : ℕ) (t : Store c p s) (h : Beside p q) where
   beside_piece : (k : ℕ) → k < s → piece c q k ≡ piece c p k

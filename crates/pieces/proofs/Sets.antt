@@ -1,5 +1,5 @@
 -- Sets of marks: bits of words, marks added, and two sets joined.
-use Rattle.std.proofs.Common.{◌≡◌, ℕ, ◌+◌, ◌*◌, ◌/◌, ◌%◌, ◌^◌, ◌<◌, ◌≤◌, max, true, false, ◌≢◌, List, [], ◌∷◌, length, get_or, drop, set, sym, refl, ap, ◌∙◌, inl, inr, one-mul, arith}
+use Rattle.std.proofs.Common.{◌≡◌, ℕ, ◌+◌, ◌*◌, ◌/◌, ◌%◌, ◌^◌, ◌<◌, ◌≤◌, max, true, false, ◌≢◌, List, [], ◌∷◌, ◌++◌, length, get_or, drop, set, sym, refl, ap, ◌∙◌, inl, inr, one-mul, arith}
 use lib.Bits.{bit_or, or_step}
 use Rattle.std.specs.List.{AllByRecursion}
 use Rattle.std.proofs.lemmas.Nat.{or_shr, or_comm, shl-shr}
@@ -8,6 +8,8 @@ use Rattle.std.proofs.lemmas.List.{length-set, get_or-set_same, get_or-set_other
 use Rattle.std.proofs.lemmas.Bool.{cases_eq, eq-eqb, ne_eqb}
 use Rattle.model.specs.Paper.{Cell}
 use Rattle.tree.specs.Tree.{Sums}
+use Rattle.slots.specs.Cells.{cell_at, cells_at}
+use Rattle.slots.proofs.Words.{cells_more}
 use Rattle.pieces.specs.Marks.{Bit, Bits, Has, has, Marks, Lacks, two_bits, with_set, noted, noted_cells, Beside, Grown, Joined}
 
 odd : (a b : ℕ) → a % 2 ≡ 1 → bit_or a b % 2 ≡ 1
@@ -117,6 +119,21 @@ beside_both p q r g h = record { long = h.long ∙ g.long; below = λ w l. h.bel
 pub grown_both : (p q r : List ℕ) → Grown p q → Grown q r → Grown p r
 grown_both p q r g h =
     record { beside = beside_both p q r g.beside h.beside; has = λ i m l x. h.has i m l (g.has i m l x) }
+
+-- one cell more
+pub noted_more : (p : List ℕ) (i : ℕ) (xs : List Cell) (x : Cell)
+    → noted_cells p i (xs ++ (x ∷ [])) ≡ noted (noted (noted_cells p i xs) i x.put_in) i x.struck
+unfolding noted_cells
+noted_more p i [] x = refl
+noted_more p i (y ∷ xs) x = noted_more (noted (noted p i y.put_in) i y.struck) i xs x
+
+-- one cell more of a run
+pub noted_next : (c p q r t : List ℕ) (i from j : ℕ) (x : Cell) → q ≡ noted_cells p i (cells_at c from j) → x ≡ cell_at c (from + j)
+    → r ≡ noted q i x.put_in → t ≡ noted r i x.struck → t ≡ noted_cells p i (cells_at c from (j + 1))
+noted_next c p q r t i from j x d e f g =
+    let xs = cells_at c from j in
+    g ∙ ap (λ z. noted z i x.struck) (f ∙ ap (λ z. noted z i x.put_in) d) ∙ sym (noted_more p i xs x)
+    ∙ ap (λ y. noted_cells p i (xs ++ (y ∷ []))) e ∙ sym (ap (noted_cells p i) (cells_more c from j))
 
 pub cells_noted : (p : List ℕ) (i : ℕ) (xs : List Cell) → i < 2048 → 10240 ≤ length p → Grown p (noted_cells p i xs) × AllByRecursion (Marks (noted_cells p i xs) i) xs
 unfolding noted_cells

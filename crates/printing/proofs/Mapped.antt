@@ -1,8 +1,13 @@
 -- A list that is made element by element.
-use Rattle.std.proofs.Common.{◌≡◌, ℕ, ◌+◌, List, [], ◌∷◌, ◌++◌, map, length, get_or, Result, Ok, Err, Vec, vec_items, refl, ap, ◌∙◌, append_assoc}
+use Rattle.std.proofs.Common.{◌≡◌, ℕ, ◌+◌, ◌<◌, List, [], ◌∷◌, ◌++◌, map, length, get_or, take, Result, Ok, Err, Vec, vec_items, sym, refl, ap, ◌∙◌, append_assoc}
 use Rattle.std.specs.List.{range_with_len}
 use Rattle.std.specs.Prelude.{IfOk}
-use Rattle.std.proofs.lemmas.List.{length_push, get_or_at}
+use Rattle.std.proofs.lemmas.List.{map_push, take_more, length_push, get_or_at}
+
+pub read_more : {X Y : Type 0} (f : X → Y) (ys : List Y) (v after : List X) (x : X) (k : ℕ) →
+    map f v ≡ take k ys → after ≡ v ++ (x ∷ []) → k < length ys → ((d : Y) → get_or ys k d ≡ f x) → map f after ≡ take (k + 1) ys
+read_more {X} {Y} f ys v after x k inv e h g =
+    ap (map f) e ∙ (map_push f v x ∙ (ap (λ zs. zs ++ (f x ∷ [])) inv ∙ (ap (λ (y : Y). take k ys ++ (y ∷ [])) (sym (g (f x))) ∙ sym (take_more ys k (f x) h))))
 
 -- the elements of ys by their numbers, after those of zs
 numbered : {Y : Type 0} (ys zs : List Y) (d : Y) → map (λ k. get_or (zs ++ ys) k d) (range_with_len (length zs) (length ys)) ≡ ys

@@ -1,5 +1,6 @@
--- Totals of words: one more word, two runs in a row, the same words elsewhere.
-use Rattle.std.proofs.Common.{◌≡◌, ℕ, zero, suc, ◌+◌, ◌<◌, List, get_or, sym, refl, add-zero, zero-add, arith}
+-- Totals of words: one more word, two runs in a row, the same words elsewhere, more words.
+use Rattle.std.proofs.Common.{◌≡◌, ℕ, zero, suc, ◌+◌, ◌-◌, ◌<◌, ◌≤◌, List, get_or, drop, sym, refl, ap, ◌∙◌, add-zero, zero-add, arith}
+use Rattle.std.proofs.lemmas.List.{get_or-drop}
 use Rattle.tree.specs.Tree.{total}
 
 pub total_none : (t : List ℕ) (k : ℕ) → total t k 0 ≡ 0
@@ -41,3 +42,16 @@ total_ext t u k m (suc n) same =
     in
     let first' : get_or t k 0 ≡ get_or u m 0 = rw (a, b) at first in
     omega (arith, total_ext t u (k + 1) (m + 1) n rest)
+
+-- the words of a part of a slice, as words of the whole
+pub total_drop : (t : List ℕ) (a k n : ℕ) → total (drop a t) k n ≡ total t (a + k) n
+total_drop t a k n =
+    total_ext (drop a t) t k (a + k) n λ i h.
+    let e : a + (k + i) ≡ a + k + i = omega arith in
+    get_or-drop a t (k + i) 0 ∙ ap (λ (j : ℕ). get_or t j 0) e
+
+-- more words have no smaller total
+pub total_mono : (t : List ℕ) (k m n : ℕ) → m ≤ n → total t k m ≤ total t k n
+total_mono t k m n h =
+    let e : n ≡ m + (n - m) = omega arith in
+    rw e (omega (arith, total_split t k m (n - m)))
