@@ -5,7 +5,7 @@
 // Where a vector's own method comes last, `Ok(())` follows it: it says what it appends in both outcomes, where our contracts speak of success only.
 #![tactic(auto)]
 
-ghost use Rattle.std.specs.Prelude.{◌≡◌, ◌-◌, ◌<◌, ◌++◌, map, OnOk, Some};
+ghost use Rattle.std.specs.Prelude.{◌≡◌, ◌-◌, ◌<◌, ◌++◌, decimal, map, OnOk, Some};
 ghost use Rattle.markup.specs.Laws.{ReadsCells, ReadsLetters};
 ghost use Rattle.markup.specs.Marked.{alike as look_alike, author_by, bare, between, closed, colour, followed, hue as hue_of, mark_tag, marked, opened, said, span, title};
 ghost use Rattle.markup.specs.Plain.{escaped};
@@ -16,7 +16,7 @@ use model::Change;
 use printing::{Cell, END};
 use std::alloc::AllocError;
 use std::fmt;
-use std::io::Write;
+use text::push_number;
 
 // A letter, by its name where it could be taken for markup.
 pub fn push_letter(out: &mut Vec<u8>, letter: u8) -> Result<(), AllocError>
@@ -62,6 +62,17 @@ fn author_of(changes: &[Change], mark: u32) -> u32
         .map_or(0, |change| change.author)
 }
 
+// A number between two pieces of markup. A page has thousands, so it is appended, in line: by `write!` a page takes half as long again, by a call a tenth.
+#[inline(always)]
+fn push_numbered(out: &mut Vec<u8>, before: &str, n: u64, after: &str) -> Result<(), AllocError>
+    ensures { OnOk result (out.new.items ≡ out.old.items ++ (before.now ++ (decimal n ++ after.now))) }
+{
+    out.extend_from_slice(before.as_bytes())?;
+    push_number(out, n)?;
+    out.extend_from_slice(after.as_bytes())?;
+    Ok(())
+}
+
 // A sentence for a mark, and nothing where there is none.
 fn push_said(out: &mut Vec<u8>, words: &str, mark: u32) -> Result<(), AllocError>
     ensures { OnOk result (out.new.items ≡ out.old.items ++ said words.now mark) }
@@ -69,7 +80,7 @@ fn push_said(out: &mut Vec<u8>, words: &str, mark: u32) -> Result<(), AllocError
     if mark == 0 {
         return Ok(());
     }
-    write!(out, "{}{}. ", words, mark - 1).map_err(|_| AllocError)
+    push_numbered(out, words, u64::from(mark - 1), ". ")
 }
 
 // Whether a cell has no marks.
@@ -96,10 +107,17 @@ fn push_title(out: &mut Vec<u8>, x: Cell) -> Result<(), AllocError>
 fn push_span(out: &mut Vec<u8>, x: Cell) -> Result<(), AllocError>
     ensures { OnOk result (out.new.items ≡ out.old.items ++ span (cell_of x)) }
 {
-    write!(out, "<span class='s{}'", x.style).map_err(|_| AllocError)?;
+    push_numbered(out, "<span class='s", u64::from(x.style), "'")?;
     push_title(out, x)?;
     out.extend_from_slice(b">")?;
     Ok(())
+}
+
+// An author's colour, in the bytes that `Colour` prints.
+fn push_colour(out: &mut Vec<u8>, author: u32) -> Result<(), AllocError>
+    ensures { OnOk result (out.new.items ≡ out.old.items ++ colour author) }
+{
+    push_numbered(out, " style='color:hsl(", hue(author), ",70%,30%)'")
 }
 
 // The tag for a mark, in the colour of its author, and nothing where there is none.
@@ -114,10 +132,10 @@ fn push_mark(
     if mark == 0 {
         return Ok(());
     }
-    let colour = Colour {
-        author: author_of(changes, mark),
-    };
-    write!(out, "{}{}'{}>", start, mark - 1, colour).map_err(|_| AllocError)
+    push_numbered(out, start, u64::from(mark - 1), "'")?;
+    push_colour(out, author_of(changes, mark))?;
+    out.extend_from_slice(b">")?;
+    Ok(())
 }
 
 // The tags before a letter.
