@@ -1,11 +1,7 @@
 -- A piece that is cut in two: the last slot is rotated into place, and takes the cells behind the cut.
-use Rattle.std.proofs.Common.{◌≡◌, ℕ, zero, suc, ◌+◌, ◌-◌, ◌<◌, ◌≤◌, ◌≢◌, ◌⊎◌, List, [], ◌++◌, length, get_or, take, drop, sym, refl, ap, ◌∙◌, add-zero, inl, inr, arith}
-use Rattle.std.proofs.lemmas.List.{append_assoc, append-nil, length-drop, take-append-drop, take_all, length-take-le, drop_all, ext_get_or, get_or-drop, get_or-take, length-append, length-take}
+use Rattle.std.proofs.Common.{◌≡◌, ℕ, zero, suc, ◌+◌, ◌-◌, ◌<◌, ◌≤◌, ◌≢◌, ◌⊎◌, List, [], ◌++◌, length, get_or, take, drop, set, sym, refl, ap, ◌∙◌, inl, inr, arith}
+use Rattle.std.proofs.lemmas.List.{append_assoc, append-nil, length-set, length-drop, take-append-drop, take_all, length-take-le, drop_all, get_or-set_same, get_or-set_other, ext_get_or, get_or-drop}
 use Rattle.std.proofs.lemmas.Bool.{cases_eq, cases_order}
-use Rattle.std.proofs.lemmas.List.Edits.{get_or-between, length-between}
-use Rattle.std.proofs.lemmas.Slice.{between-put_mid, drop-put_mid, take-put_mid_below}
-use Rattle.std.specs.List.{between, RotatedRight}
-use borrow.Rule.Slice.PartMut.{put_mid}
 use Rattle.model.specs.Paper.{Cell}
 use Rattle.slots.specs.Cells.{cells_at}
 use Rattle.pieces.specs.Marks.{Has}
@@ -56,46 +52,25 @@ strung_rotated f g k s l below new last up =
     let x = append-nil (strung f (k + 1) n) in
     cc
 
--- the part from `from` to `to` rotated by one
-pub rotated : (p ys : List ℕ) (from to : ℕ) → from ≤ to → to < length p → length ys ≡ length (between from (to + 1) p)
-    → RotatedRight (between from (to + 1) p) ys (length (between from (to + 1) p)) 1 → Rotated p (put_mid from (to + 1 - from) p ys) from to
-rotated p ys from to l m e h =
+-- the words that a rotation moves
+pub rotated : (p q r : List ℕ) (from to : ℕ) → from ≤ to → to < length p → length q ≡ length p
+    → ((k : ℕ) (z : ℕ) → from + 1 ≤ k → k < from + 1 + (to - from) → get_or q k z ≡ get_or p (from + (k - (from + 1))) z)
+    × ((k : ℕ) (z : ℕ) → k < from + 1 → get_or q k z ≡ get_or p k z)
+    × ((k : ℕ) (z : ℕ) → from + 1 + (to - from) ≤ k → get_or q k z ≡ get_or p k z)
+    → r ≡ set q from (get_or p to 0) → Rotated p r from to
+rotated p q r from to l m e h is =
     record {
-      long = simp (length-append, length-take, length-drop) (omega (arith, n, e));
-      first =
-          let i : from + (length xs - 1 + 0) ≡ to = omega (arith, n) in
-          inside from 0 (add-zero from) (omega arith) ∙ h.0 0 0 (omega arith) ∙ read (length xs - 1 + 0) (omega (arith, n)) ∙ ap (λ k. get_or p k 0) i;
+      long = ap length is ∙ length-set q from (get_or p to 0) ∙ e;
+      first = ap (λ x. get_or x from 0) is ∙ get_or-set_same q from (get_or p to 0) 0 (omega arith);
       up = λ w a b.
-          let i : from + (w + 1 - from - 1) ≡ w = omega arith in
-          inside (w + 1) (w + 1 - from) (omega arith) (omega arith) ∙ h.1 (w + 1 - from) 0 (omega arith) (omega (arith, n)) ∙ read (w + 1 - from - 1) (omega arith) ∙ ap (λ k. get_or p k 0) i;
-      below = λ w a.
-          sym (get_or-take (w + 1) q w 0 (omega arith)) ∙ ap (λ ws. get_or ws w 0) (take-put_mid_below from (to + 1 - from) p ys (w + 1) (omega arith) (omega arith))
-          ∙ get_or-take (w + 1) p w 0 (omega arith);
-      above = λ w a.
-          let d = drop-put_mid from (to + 1 - from) p ys w (omega arith) (omega arith) (e ∙ n) in
-          let i = get_or-drop w q 0 0 in
-          let j = get_or-drop w p 0 0 in
-          let z = add-zero w in
-          let x = ap (λ ws. get_or ws 0 0) d in
-          cc;
+          let i : from + (w + 1 - (from + 1)) ≡ w = omega arith in
+          other (w + 1) (omega arith) ∙ h.0 (w + 1) 0 (omega arith) (omega arith) ∙ ap (λ x. get_or p x 0) i;
+      below = λ w a. other w (omega arith) ∙ h.1 w 0 (omega arith);
+      above = λ w a. other w (omega arith) ∙ h.2 w 0 (omega arith);
     }
   where
-    q : List ℕ
-    q = put_mid from (to + 1 - from) p ys
-
-    xs : List ℕ
-    xs = between from (to + 1) p
-
-    n : length xs ≡ to + 1 - from
-    n = length-between p from (to + 1) (omega arith)
-
-    inside : (w j : ℕ) → from + j ≡ w → w ≤ to → get_or q w 0 ≡ get_or ys j 0
-    inside w j i b =
-        ap (λ k. get_or q k 0) (sym i) ∙ sym (get_or-between q from (to + 1) j 0 (omega arith))
-        ∙ ap (λ ws. get_or ws j 0) (between-put_mid from (to + 1 - from) p ys (to + 1) (omega arith) (e ∙ n))
-
-    read : (j : ℕ) → from + j < to + 1 → get_or xs j 0 ≡ get_or p (from + j) 0
-    read j b = get_or-between p from (to + 1) j 0 b
+    other : (w : ℕ) → w ≢ from → get_or r w 0 ≡ get_or q w 0
+    other w ne = ap (λ x. get_or x w 0) is ∙ get_or-set_other q from w (get_or p to 0) 0 ne
 
 -- which piece i became piece j
 abbrev Was : ℕ → ℕ → ℕ → ℕ → Type 0

@@ -376,7 +376,10 @@ pub fn rotate(p: &mut [u32], from: usize, to: usize)
     requires within { to < length p.old }
     ensures { Rotated p.old p.new from to }
 {
-    p[from..to + 1].rotate_right(1);
+    // Not by the library's `rotate_right`: that one calls `memmove`, which the archive for C would then need from outside. `copy_within` does not.
+    let last = p[to];
+    p.copy_within(from..to, from + 1);
+    p[from] = last;
 }
 
 /// Cuts a piece at a spot: the last piece, which is empty, moves behind it and takes what follows.

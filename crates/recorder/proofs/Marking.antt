@@ -4,9 +4,8 @@ use Rattle.std.specs.List.{AllByRecursion}
 use Rattle.std.proofs.lemmas.Bool.{ne_eqb}
 use Rattle.std.proofs.lemmas.List.{append_assoc, length-append}
 use Rattle.model.specs.Paper.{pick, Cell, cells_written, touched}
-use Rattle.slots.specs.Cells.{cells_at}
 use Rattle.pieces.specs.Marks.{Lacks}
-use Rattle.pieces.specs.Store.{slot, used, number, piece, strung, cells_of, pieces_from, before}
+use Rattle.pieces.specs.Store.{piece, strung, cells_of, pieces_from, before}
 use Rattle.pieces.proofs.Strung.{strung_more, strung_at}
 use Rattle.pieces.proofs.Texts.{length_before}
 use Rattle.history.specs.Entry.{Mark, marks_of}

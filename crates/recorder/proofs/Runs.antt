@@ -2,10 +2,11 @@
 use Rattle.std.proofs.Common.{◌≡◌, ℕ, zero, suc, ◌+◌, ◌-◌, ◌*◌, ◌/◌, ◌<◌, ◌≤◌, min, Bool, true, false, not, cond, eqb, List, [], ◌∷◌, ◌++◌, length, get_or, take, drop, sym, refl, ap, ◌∙◌, zero-add, arith, take-add}
 use Rattle.std.specs.List.{between, count_by}
 use Rattle.std.proofs.lemmas.List.{length-drop, length-take-le, take-append-drop, take-append-le, drop-drop, nil_from_length}
+use Rattle.std.proofs.lemmas.List.Edits.{length-between}
 use Rattle.std.proofs.lemmas.List.Recursion.{is_count_by}
 use Rattle.model.specs.Paper.{pick, Cell, Change, cells_written, author_of}
 use Rattle.slots.specs.Cells.{all_cells, cell_at, cells_at, Kept}
-use Rattle.slots.proofs.Words.{cell_same, cells_take, take_cells, drop_cells, kept_drop}
+use Rattle.slots.proofs.Words.{cell_same, cells_part, cells_take, take_cells, drop_cells, kept_drop, kept_take}
 use Rattle.pieces.specs.Store.{slot, used, number, piece, strung, cells_of, before, Order, Store, Located}
 use Rattle.pieces.proofs.Texts.{length_piece, length_text, drop_text}
 use Rattle.history.specs.Entry.{staying}
@@ -123,6 +124,25 @@ cell_written u v x h is k =
     let first : cells_at (take 4 v) 0 1 ≡ x ∷ [] = cells_take v 1 4 (omega arith) ∙ ap (λ y. y ∷ []) is in
     let front : take 4 v ≡ cells_written (x ∷ []) = sym (words_of 1 (take 4 v) (length-take-le 4 v (omega arith))) ∙ ap cells_written first in
     sym (take-append-drop 4 v) ∙ ap (λ ws. ws ++ drop 4 v) front ∙ ap (λ ws. cells_written (x ∷ []) ++ ws) (kept_drop u v 0 1 k 4 (omega arith))
+
+-- cells that are pasted from number a on
+pub pasted_at :
+    (u v ws : List ℕ) (a : ℕ) → length ws ≡ 4 * (length ws / 4) → 4 * (a + length ws / 4) ≤ length u →
+    cells_at v a (length ws / 4) ≡ all_cells ws → Kept u v a (length ws / 4) → v ≡ written_at u (4 * a) ws
+pasted_at u v ws a whole h is k =
+    let n = length ws / 4 in
+    let l = k.long in
+    let part = between (4 * a) (4 * (a + n)) v in
+    let long : length part ≡ 4 * n = omega (arith, length-between v (4 * a) (4 * (a + n)) (omega arith)) in
+    let there : part ≡ ws = sym (words_of n part long) ∙ ap cells_written (cells_part v a n ∙ is) ∙ words_of n ws whole in
+    let e : 4 * (a + n) - 4 * a ≡ 4 * n = omega arith in
+    let f : 4 * a + 4 * n ≡ 4 * (a + n) = omega arith in
+    let g : 4 * (a + n) ≡ 4 * a + length ws = omega arith in
+    let rest = drop-drop (4 * n) (4 * a) v ∙ ap (λ m. drop m v) f ∙ kept_drop u v a n k (4 * (a + n)) (omega arith) ∙ ap (λ m. drop m u) g in
+    let mid : take (4 * n) (drop (4 * a) v) ≡ ws = ap (λ m. take m (drop (4 * a) v)) (sym e) ∙ there in
+    sym (take-append-drop (4 * a) v) ∙ ap (λ xs. take (4 * a) v ++ xs) (sym (take-append-drop (4 * n) (drop (4 * a) v)))
+    ∙ ap (λ xs. xs ++ (take (4 * n) (drop (4 * a) v) ++ drop (4 * n) (drop (4 * a) v))) (kept_take u v a n k (4 * a) (omega arith))
+    ∙ ap (λ xs. take (4 * a) u ++ (xs ++ drop (4 * n) (drop (4 * a) v))) mid ∙ ap (λ xs. take (4 * a) u ++ (ws ++ xs)) rest
 
 -- cells are read back from their words
 cells_back : (xs : List Cell) → cells_at (cells_written xs) 0 (length xs) ≡ xs

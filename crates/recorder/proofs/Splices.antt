@@ -53,11 +53,6 @@ module _ (u : List ℕ) (a : ℕ) (ws : List ℕ) (fits : a + length ws ≤ leng
       let a1 = append_assoc ws vs (drop (a + length (ws ++ vs)) u) in
       cc
 
--- a part that is copied in
-pub put_at : (u ws new : List ℕ) (a k : ℕ) → new ≡ ws → k ≡ length ws → put_mid a k u new ≡ written_at u a ws
-put_at u ws new a k e f =
-    ap (λ xs. take a u ++ (xs ++ drop k (drop a u))) e ∙ ap (λ xs. take a u ++ (ws ++ xs)) (drop-drop k a u) ∙ ap (λ n. take a u ++ (ws ++ drop (a + n) u)) f
-
 -- from the front, and in the words from place a on
 pub written_front : (u ws : List ℕ) → written_at u 0 ws ≡ written u ws
 written_front u ws = ap (λ n. ws ++ drop n u) (zero-add (length ws))

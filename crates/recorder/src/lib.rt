@@ -92,8 +92,8 @@ fn copy_text(words: &mut [u32], text: &Text, place: usize, n: usize)
     // By hand, as only a piece knows how many of the cells stand in it.
     while done < n {
         let part = stretch_at(text, place + done, n - done);
-        let from = CELL * done;
-        words[from..from + part.len()].copy_from_slice(part);
+        // Pasted cell by cell, and not by the library's `copy_from_slice`: that one becomes a call of `memmove`, which the archive for C would then need from outside.
+        slots::paste(words, done, part);
         done += part.len() / CELL;
     }
 }

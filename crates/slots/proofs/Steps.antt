@@ -1,12 +1,12 @@
 -- What the code writes, over plain lists.
-use Rattle.std.proofs.Common.{◌≡◌, ℕ, suc, ◌+◌, ◌-◌, ◌*◌, ◌<◌, ◌≤◌, ◌≢◌, List, [], ◌∷◌, ◌++◌, length, get_or, take, set, sym, ap, ◌∙◌, add-zero, arith}
-use Rattle.std.proofs.lemmas.List.{get_or-set_same, get_or-set_other, length-set, take_more}
+use Rattle.std.proofs.Common.{◌≡◌, ℕ, suc, ◌+◌, ◌-◌, ◌*◌, ◌<◌, ◌≤◌, ◌≢◌, List, [], ◌∷◌, ◌++◌, length, get_or, take, set, refl, sym, ap, ◌∙◌, append-nil, add-zero, arith}
+use Rattle.std.proofs.lemmas.List.{get_or-set_same, get_or-set_other, append_assoc, length-append, length-set, take_more}
 use Rattle.model.specs.Paper as paper
 use Rattle.model.specs.Paper.{new_cells}
 use Rattle.model.specs.Values.{cell_of}
 use Rattle.model.specs.declared.Cell.{Cell}
 use Rattle.slots.specs.Cells.{cell_at, cells_at, Kept}
-use Rattle.slots.proofs.Words.{cells_same, cell_same, cells_more, kept_cells_below, kept_wider, kept_twice, new_cells_more}
+use Rattle.slots.proofs.Words.{length_cells, cells_same, cell_same, cells_more, kept_none, kept_cells_below, kept_wider, kept_twice, new_cells_more}
 
 -- four words written from number b on
 abbrev four : List ℕ → ℕ → Cell → List ℕ
@@ -78,3 +78,32 @@ filled c d e a i ls s ch l h g f k w j =
     let m = new_cells_more (take i ls) l s ch in
     let r = added c d e a i _ _ f k w j in
     let x = r.0 in (cc, r.1)
+
+-- so many of the cells xs are pasted from number a on, and the rest is left
+pub record Pasting (c d : List ℕ) (a : ℕ) (xs rest : List paper.Cell) (i : ℕ) : Type 0 where
+  pub all : cells_at d a i ++ rest ≡ xs
+  pub kept : Kept c d a i
+
+pub pasting_start : (c : List ℕ) (a : ℕ) (xs rest : List paper.Cell) (i : ℕ) → rest ≡ xs → i ≡ 0 → Pasting c c a xs rest i
+unfolding cells_at
+pasting_start c a xs rest i e z = rw z (record { all = e; kept = kept_none c a })
+
+pub pasting_few : {c d : List ℕ} {a : ℕ} {xs rest : List paper.Cell} {i : ℕ} → Pasting c d a xs rest i → i + length rest ≡ length xs
+pasting_few {d = d} {a = a} {rest = rest} {i = i} g = omega (arith, length_cells d a i, length-append (cells_at d a i) rest, ap length g.all)
+
+-- one more cell
+pub pasting_more : {c d e : List ℕ} {a : ℕ} {xs rest left : List paper.Cell} {i : ℕ} {x : paper.Cell} → Pasting c d a xs rest i → rest ≡ x ∷ left
+    → cell_at e (a + i) ≡ x → Kept d e (a + i) 1 → Pasting c e a xs left (i + 1)
+pasting_more {c = c} {d = d} {e = e} {a = a} {left = left} {i = i} {x = x} g one w j =
+    let r = added c d e a i _ x refl g.kept w j in
+    record {
+      all = ap (λ ys. ys ++ left) r.0 ∙ append_assoc (cells_at d a i) (x ∷ []) left ∙ ap (λ ys. cells_at d a i ++ ys) (sym one) ∙ g.all;
+      kept = r.1;
+    }
+
+-- and no more is left
+pub pasting_all : {c d : List ℕ} {a : ℕ} {xs rest : List paper.Cell} {i n : ℕ} → Pasting c d a xs rest i → rest ≡ [] → length xs ≡ n
+    → (cells_at d a n ≡ xs) × Kept c d a n
+pasting_all {c = c} {d = d} {a = a} {xs = xs} {i = i} {n = n} g none long =
+    let e : i ≡ n = omega (arith, pasting_few g, ap length none) in
+    (ap (cells_at d a) (sym e) ∙ sym (append-nil (cells_at d a i)) ∙ ap (λ ys. cells_at d a i ++ ys) (sym none) ∙ g.all, rw e at g.kept)

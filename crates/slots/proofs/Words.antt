@@ -1,6 +1,6 @@
 -- Laws of cells in words.
 use Rattle.std.proofs.Common.{◌≡◌, ℕ, zero, suc, ◌+◌, ◌-◌, ◌*◌, ◌/◌, ◌<◌, ◌≤◌, List, [], ◌∷◌, ◌++◌, length, get_or, take, drop, refl, sym, ap, ◌∙◌, add-zero, add-suc, suc-add, zero-add, arith}
-use Rattle.std.proofs.lemmas.List.{ext_get_or, get_or-drop, get_or-take, length-drop, length-take-le, take_at, drop_at}
+use Rattle.std.proofs.lemmas.List.{ext_get_or, get_or-drop, get_or-take, length-drop, length-take, length-take-le, take_at, drop_at}
 use Rattle.std.proofs.lemmas.List.Edits.{length-between}
 use Rattle.std.specs.List.{between}
 use Rattle.model.specs.Paper.{Cell, new_cells}
@@ -115,6 +115,12 @@ module _ (c d : List ℕ) (b n : ℕ) (k : Kept c d b n) where
       let e = k.long in
       ext_get_or 0 (drop m d) (drop m c) (simp (length-drop) (omega arith))
       (λ i h. simp get_or-drop (k.above (m + i) (omega arith)))
+
+  pub kept_take : (m : ℕ) → m ≤ 4 * b → take m d ≡ take m c
+  kept_take m l =
+      let e = k.long in
+      ext_get_or 0 (take m d) (take m c) (simp length-take (omega arith))
+      (λ i h. let s : i < m = omega (arith, length-take m d) in get_or-take m d i 0 s ∙ k.below i (omega arith) ∙ sym (get_or-take m c i 0 s))
 
 pub kept_none : (c : List ℕ) (a : ℕ) → Kept c c a 0
 kept_none c a = record { long = refl; below = λ w h. refl; above = λ w h. refl }

@@ -96,8 +96,10 @@ pub fn paste(c: &mut [u32], a: usize, new: &[u32])
     ensures pasted { cells_at c.new a (length new.now / 4) ≡ all_cells new.now }
     ensures kept { Kept c.old c.new a (length new.now / 4) }
 {
-    let n = new.len() / 4;
-    c[4 * a..4 * (a + n)].copy_from_slice(&new[..4 * n]);
+    // Cell by cell, and not by the library's `copy_from_slice`: that one becomes a call of `memmove`, which the archive for C would then need from outside.
+    for (i, cell) in (Cells { words: new }).enumerate() {
+        write(c, a + i, cell);
+    }
 }
 
 // Writes the letters as new cells from number `a` on: in one style, put in by one change.

@@ -1,8 +1,7 @@
-use Rattle.std.proofs.Common.{◌≡◌, ◌+◌, ◌*◌, ◌∙◌, arith}
+use Rattle.std.proofs.Common.{arith}
 use Rattle.model.specs.Values.{cell_of}
-use Rattle.pieces.specs.Store.{slot}
-use Rattle.pieces.proofs.Sets.{cell_noted, noted_grown}
-use Rattle.pieces.proofs.Edit.{grown_store, written}
+use Rattle.pieces.proofs.Sets.{cell_noted}
+use Rattle.pieces.proofs.Edit.{written}
 use Rattle.pieces.proofs.write_here.Goals as goal
 
 pub returns : goal.returns

@@ -1,9 +1,9 @@
 -- One stretch more, and at the end all.
-use Rattle.std.proofs.Common.{◌≡◌, ◌*◌, ◌∙◌, take, drop, sym, arith}
+use Rattle.std.proofs.Common.{◌≡◌, ◌∙◌, take, drop, sym, arith}
 use Rattle.model.specs.Paper.{cells_written}
 use Rattle.kept.specs.Text.{cells_in}
-use Rattle.recorder.proofs.Splices.{put_at, written_front, written_none}
-use Rattle.recorder.proofs.Runs.{text_small, stretched_long, run_more}
+use Rattle.recorder.proofs.Splices.{written_front, written_none}
+use Rattle.recorder.proofs.Runs.{text_small, stretched_long, run_more, pasted_at}
 use Rattle.recorder.proofs.copy_text.Goals as goal
 
 pub loop-done-init : goal.loop-done-init
@@ -22,7 +22,7 @@ loop-done-preserved c =
     let long = stretched_long (cells_in c.args.text.now) _ _ c.stretch_at-part.result.now f (omega (arith, c.requires.within, less)) in (
       run_more c.args.words.now c.loop-done.words _ (cells_in c.args.text.now) c.args.place c.args.n c.loop-done.done c.stretch_at-part.result.now
           f c.requires.within c.requires.target less c.loop-done.invariant.0
-          (put_at c.loop-done.words c.stretch_at-part.result.now c.copy_from_slice.new.self (4 * c.loop-done.done) _ c.copy_from_slice.ensures.after (omega arith)),
+          (pasted_at c.loop-done.words c.paste.new.c c.stretch_at-part.result.now c.loop-done.done long (omega arith) c.paste.ensures.pasted c.paste.ensures.kept),
       omega (arith, f.few, less),
     )
 

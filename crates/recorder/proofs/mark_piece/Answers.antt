@@ -1,5 +1,5 @@
 -- All cells of the piece, or none.
-use Rattle.std.proofs.Common.{◌∙◌, ap, arith}
+use Rattle.std.proofs.Common.{ap, arith}
 use Rattle.model.specs.Paper.{touched}
 use Rattle.slots.specs.Cells.{all_cells}
 use Rattle.pieces.specs.Store.{piece}
