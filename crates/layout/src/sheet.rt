@@ -3,6 +3,7 @@ ghost use Rattle.std.specs.Prelude.{◌≡◌, ◌≤◌};
 ghost use Rattle.model.specs.Values.{way_number};
 
 use crate::Seen;
+use crate::seen::rest_of;
 use breaks::Begun;
 use kept::{Memo, Text};
 use model::Way;
@@ -152,28 +153,34 @@ impl<'a> Sheet<'a> {
         requires { Within self.now from }
         ensures { RowIs self.now from result }
     {
-        // Counted by hand, as it is wanted after the loop too.
+        // Counted by hand, as it is wanted after the loops too.
         let mut long = 0;
         // the row as it is if it goes to the last space so far
         let mut space = None;
-        for (at, x) in Seen::new(&self.text, self.way, from) {
-            let next = Spot {
-                piece: at.piece,
-                offset: at.offset + 1,
-            };
-            if x.letter == END {
-                return Some(Row { long, next });
+        let mut offset = from.offset;
+        // By number, as a spot names its piece, and not over `Seen`, here and below: to make that value anew for each letter took half of the time.
+        for piece in from.piece..self.text.slots {
+            for x in rest_of(&self.text, Spot { piece, offset }) {
+                let at = Spot { piece, offset };
+                offset += 1;
+                if self.way.sees(x) {
+                    let next = Spot { piece, offset };
+                    if x.letter == END {
+                        return Some(Row { long, next });
+                    }
+                    if x.letter == SPACE {
+                        space = Some(Row { long, next });
+                    }
+                    long += 1;
+                    if long > self.width {
+                        return Some(space.unwrap_or(Row {
+                            long: self.width,
+                            next: at,
+                        }));
+                    }
+                }
             }
-            if x.letter == SPACE {
-                space = Some(Row { long, next });
-            }
-            long += 1;
-            if long > self.width {
-                return Some(space.unwrap_or(Row {
-                    long: self.width,
-                    next: at,
-                }));
-            }
+            offset = 0;
         }
         if long == 0 {
             return None;
@@ -208,8 +215,19 @@ impl<'a> Sheet<'a> {
         ensures next { result ≡ at + 16 * n }
     {
         let mut at = at;
-        for (_, x) in Seen::new(&self.text, self.way, from).take(n as usize) {
-            at = codec::cell(out, at, x);
+        let mut left = n;
+        let mut offset = from.offset;
+        for piece in from.piece..self.text.slots {
+            for x in rest_of(&self.text, Spot { piece, offset }) {
+                if left == 0 {
+                    return at;
+                }
+                if self.way.sees(x) {
+                    at = codec::cell(out, at, x);
+                    left -= 1;
+                }
+            }
+            offset = 0;
         }
         at
     }
