@@ -29,6 +29,10 @@ sought_start s t now e =
     let z : suc s.width - 0 ≡ suc s.width = omega arith in
     record { scan = record { fits = omega arith; within = omega arith; rest = sym e; end = rw (e, z) refl; space = rw (e, z) refl }; row = tt }
 
+-- the same cells by another name
+pub sought_same : (s : Sheet) (t : Spot) (now later : List Cell) (long : ℕ) (space : Option Row) → now ≡ later → Sought s t now long space → Sought s t later long space
+sought_same s t now later long space e h = subst (λ now. Sought s t now long space) e h
+
 -- a row by its cut
 found : (s : Sheet) (t : Spot) (r : Row) (k : ℕ) → cut s.width (ahead s t) ≡ record { long = r.long; skips = k } → 0 < length (ahead s t)
     → GoesOn s t (r.long + k) r → Found s t r
@@ -103,6 +107,9 @@ module _ (s : Sheet) (t : Spot) (x : Cell) (later : List Cell) (long : ℕ) (spa
 
 -- nothing is left
 module _ (s : Sheet) (t : Spot) (long : ℕ) (space : Option Row) (h : Sought s t [] long space) where
+  pub sought_none : long ≡ 0 → ahead s t ≡ []
+  sought_none z = let r = h.scan.rest in rw z at r
+
   pub sought_all : (long ≡ 0 → ⊥) → (on : Spot) → Within s on → ahead s on ≡ [] → Found s t (record { long = long; next = on })
   sought_all nz on in_on e =
       let r : Row = record { long = long; next = on } in

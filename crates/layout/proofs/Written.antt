@@ -1,6 +1,5 @@
 -- Bytes that are written piece by piece: what was to be written from a place on, and what is still to be written from a later place on.
-use Rattle.std.proofs.Common.{◌≡◌, ℕ, suc, ◌+◌, ◌-◌, ◌*◌, ◌<◌, ◌≤◌, List, [], ◌∷◌, ◌++◌, length, take, drop, refl, ap, ◌∙◌, inl, inr, add-zero, arith}
-use Rattle.std.proofs.lemmas.Bool.{cases_lt}
+use Rattle.std.proofs.Common.{◌≡◌, ℕ, suc, ◌+◌, ◌-◌, ◌*◌, ◌<◌, ◌≤◌, List, [], ◌∷◌, ◌++◌, length, take, drop, refl, ap, ◌∙◌, subst, add-zero, arith}
 use Rattle.std.proofs.lemmas.List.{take-append-drop, length-append, length-take, length-take-le, get_or-take}
 use Rattle.model.specs.Paper.{Cell}
 use Rattle.model.specs.Rows.{cut, rows}
@@ -64,6 +63,9 @@ module _ (o : List ℕ) (a n : ℕ) (xs : List Cell) (o' : List ℕ) (a' m : ℕ
       let u = length-take-le m ys e in
       omega arith
 
+  pub cells_same : (zs : List Cell) → ys ≡ zs → CellsWritten o a n xs o' a' m zs
+  cells_same zs e = subst (λ v. CellsWritten o a n xs o' a' m v) e h
+
   pub cells_more : (x : Cell) (zs : List Cell) → ys ≡ x ∷ zs → (m ≡ 0 → ⊥) → (o'' : List ℕ) (a'' : ℕ) → o'' ≡ over o' a' (cells_bytes (x ∷ [])) → a'' ≡ a' + 16 → a'' ≤ length o'
       → CellsWritten o a n xs o'' a'' (m - 1) zs
   cells_more x zs e nz o'' a'' f g l =
@@ -76,14 +78,6 @@ module _ (o : List ℕ) (a n : ℕ) (xs : List Cell) (o' : List ℕ) (a' m : ℕ
             (cells_bytes_more x zs ys m (m - 1) e k) f (omega arith) l);
         enough = omega arith;
       }
-
-  -- where no more came, there was no more to write
-  pub cells_none : {A : Type 0} → (0 < m → (ys ≡ []) × A) → m ≡ 0
-  cells_none ends =
-      elim (cases_lt 0 m) [
-        | inl k ↦ let e = ap length (ends k).0 in let t = h.enough in omega arith
-        | inr k ↦ omega arith
-      ]
 
   pub cells_done : m ≡ 0 → n ≤ length xs → (o' ≡ over o a (cells_bytes (take n xs))) × (a' ≡ a + 16 * n)
   cells_done z l =

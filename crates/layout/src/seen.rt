@@ -21,7 +21,7 @@ pub struct Seen<'a> {
 }
 
 // What is left of a spot's piece; nothing behind the last piece.
-fn rest_of<'a>(text: &Text<'a>, spot: Spot) -> Cells<'a>
+pub(crate) fn rest_of<'a>(text: &Text<'a>, spot: Spot) -> Cells<'a>
     requires { Inside text.now.tables.now text.now.slots spot.piece spot.offset }
     ensures { Rests text.now spot result.words.now }
 {

@@ -3,6 +3,7 @@ ghost use Rattle.std.specs.Prelude.{◌≡◌, ◌≤◌};
 ghost use Rattle.model.specs.Values.{way_number};
 
 use crate::Seen;
+use crate::seen::rest_of;
 use breaks::Begun;
 use kept::{Memo, Text};
 use model::Way;
@@ -20,7 +21,7 @@ pub struct Row {
     pub next: Spot,
 }
 
-/// Rows that were written as an answer: how many bytes it has, and whether a piece before them had no memo that fits.
+/// Rows that were written as an answer: how many bytes it has, and whether the first of them begins behind the piece from whose front it was sought.
 #[derive(Clone, Copy, Debug, PartialEq, Eq, Hash)]
 pub struct Showing {
     pub long: usize,
@@ -34,14 +35,14 @@ pub struct Effect {
     pub anew: bool,
 }
 
-/// Where the rows stand at the front of a piece: how many have ended, how many cells are seen before the piece, and the row that has begun there; and
-/// whether a piece before had no memo that fits.
+/// Where the rows stand at the front of a piece, or behind all pieces: the number of the piece, how many rows have ended, how many cells are seen before it, and
+/// the row that has begun there.
 #[derive(Clone, Copy, Debug, PartialEq, Eq, Hash)]
 pub struct Front {
+    pub piece: usize,
     pub rows: u32,
     pub seen: usize,
     pub begun: Begun,
-    pub anew: bool,
 }
 
 // The number of a way to look, as a word of a memo.
@@ -67,7 +68,7 @@ pub struct Sheet<'a> {
 }
 
 impl<'a> Sheet<'a> {
-    ghost use Rattle.std.specs.Prelude.{◌+◌, ◌*◌, ◌<◌, ◌++◌, length, take, drop};
+    ghost use Rattle.std.specs.Prelude.{◌+◌, ◌*◌, ◌<◌, ◌++◌, IfSome, length, take, drop};
     ghost use Rattle.model.specs.Paper.{view};
     ghost use Rattle.model.specs.Rows.{rows};
     ghost use Rattle.kept.specs.Text.{cells_in};
@@ -90,7 +91,7 @@ impl<'a> Sheet<'a> {
         let _ = self.pass_rows(from, n)?;
         Some(Showing {
             long: self.write_rows(from, n, out),
-            anew: front.anew,
+            anew: from.piece > front.piece,
         })
     }
 
@@ -100,46 +101,58 @@ impl<'a> Sheet<'a> {
         requires begun { begun.long ≤ self.now.width }
         ensures { MemoIs self.now k begun result.memo }
     {
-        let way = number(self.way);
-        let kept = self.text.memo(k);
-        if kept.width == self.width && (kept.way == way && kept.before == begun) {
-            return Effect {
-                memo: kept,
-                anew: false,
-            };
+        if let Some(memo) = self.kept_memo(k, begun) {
+            return Effect { memo, anew: false };
         }
         let memo = Memo {
             width: self.width,
-            way,
+            way: number(self.way),
             before: begun,
             reached: breaks::reach(self.text.words_of(k), self.way, self.width, begun),
         };
         Effect { memo, anew: true }
     }
 
-    // The front of the piece in which row number `first` ends, or of what stands behind all pieces.
+    // The same as it is kept, if what is kept is of this width, this way and this row.
+    fn kept_memo(&self, k: usize, begun: Begun) -> Option<Memo>
+        requires here { k < self.now.text.slots }
+        requires begun { begun.long ≤ self.now.width }
+        ensures { IfSome result (λ memo. MemoIs self.now k begun memo) }
+    {
+        let way = number(self.way);
+        let kept = self.text.memo(k);
+        if kept.width == self.width && (kept.way == way && kept.before == begun) {
+            return Some(kept);
+        }
+        None
+    }
+
+    // The front of the piece in which row number `first` ends, or of what stands behind all pieces; or of the first piece that has no memo that fits, if that stands
+    // before. The rows of that piece are as soon found one after the other as letter by letter.
     fn front_before(&self, first: u32) -> Front
         ensures front { IsFront self.now result }
         ensures before { result.rows ≤ first }
     {
         let mut front = Front {
+            piece: 0,
             rows: 0,
             seen: 0,
             begun: Begun::NONE,
-            anew: false,
         };
         // By number, which each question about a piece takes.
         for k in 0..self.text.slots {
-            let effect = self.effect(k, front.begun);
-            let reached = effect.memo.reached;
+            let Some(memo) = self.kept_memo(k, front.begun) else {
+                return front;
+            };
+            let reached = memo.reached;
             if front.rows + reached.rows > first {
                 return front;
             }
             front = Front {
+                piece: k + 1,
                 rows: front.rows + reached.rows,
                 seen: front.seen + self.text.seen_in(k, self.way),
                 begun: reached.begun,
-                anew: front.anew || effect.anew,
             };
         }
         front
@@ -152,28 +165,34 @@ impl<'a> Sheet<'a> {
         requires { Within self.now from }
         ensures { RowIs self.now from result }
     {
-        // Counted by hand, as it is wanted after the loop too.
+        // Counted by hand, as it is wanted after the loops too.
         let mut long = 0;
         // the row as it is if it goes to the last space so far
         let mut space = None;
-        for (at, x) in Seen::new(&self.text, self.way, from) {
-            let next = Spot {
-                piece: at.piece,
-                offset: at.offset + 1,
-            };
-            if x.letter == END {
-                return Some(Row { long, next });
+        let mut offset = from.offset;
+        // By number, as a spot names its piece, and not over `Seen`, here and below: to make that value anew for each letter took half of the time.
+        for piece in from.piece..self.text.slots {
+            for x in rest_of(&self.text, Spot { piece, offset }) {
+                let at = Spot { piece, offset };
+                offset += 1;
+                if self.way.sees(x) {
+                    let next = Spot { piece, offset };
+                    if x.letter == END {
+                        return Some(Row { long, next });
+                    }
+                    if x.letter == SPACE {
+                        space = Some(Row { long, next });
+                    }
+                    long += 1;
+                    if long > self.width {
+                        return Some(space.unwrap_or(Row {
+                            long: self.width,
+                            next: at,
+                        }));
+                    }
+                }
             }
-            if x.letter == SPACE {
-                space = Some(Row { long, next });
-            }
-            long += 1;
-            if long > self.width {
-                return Some(space.unwrap_or(Row {
-                    long: self.width,
-                    next: at,
-                }));
-            }
+            offset = 0;
         }
         if long == 0 {
             return None;
@@ -208,8 +227,19 @@ impl<'a> Sheet<'a> {
         ensures next { result ≡ at + 16 * n }
     {
         let mut at = at;
-        for (_, x) in Seen::new(&self.text, self.way, from).take(n as usize) {
-            at = codec::cell(out, at, x);
+        let mut left = n;
+        let mut offset = from.offset;
+        for piece in from.piece..self.text.slots {
+            for x in rest_of(&self.text, Spot { piece, offset }) {
+                if left == 0 {
+                    return at;
+                }
+                if self.way.sees(x) {
+                    at = codec::cell(out, at, x);
+                    left -= 1;
+                }
+            }
+            offset = 0;
         }
         at
     }
