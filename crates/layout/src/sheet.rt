@@ -21,7 +21,7 @@ pub struct Row {
     pub next: Spot,
 }
 
-/// Rows that were written as an answer: how many bytes it has, and whether the first of them begins behind the piece from whose front it was sought.
+/// Rows that were written as an answer: how many bytes it has, and whether a piece before them had no memo that fits.
 #[derive(Clone, Copy, Debug, PartialEq, Eq, Hash)]
 pub struct Showing {
     pub long: usize,
@@ -35,14 +35,14 @@ pub struct Effect {
     pub anew: bool,
 }
 
-/// Where the rows stand at the front of a piece, or behind all pieces: the number of the piece, how many rows have ended, how many cells are seen before it, and
-/// the row that has begun there.
+/// Where the rows stand at the front of a piece: how many have ended, how many cells are seen before the piece, and the row that has begun there; and
+/// whether a piece before had no memo that fits.
 #[derive(Clone, Copy, Debug, PartialEq, Eq, Hash)]
 pub struct Front {
-    pub piece: usize,
     pub rows: u32,
     pub seen: usize,
     pub begun: Begun,
+    pub anew: bool,
 }
 
 // The number of a way to look, as a word of a memo.
@@ -68,7 +68,7 @@ pub struct Sheet<'a> {
 }
 
 impl<'a> Sheet<'a> {
-    ghost use Rattle.std.specs.Prelude.{◌+◌, ◌*◌, ◌<◌, ◌++◌, IfSome, length, take, drop};
+    ghost use Rattle.std.specs.Prelude.{◌+◌, ◌*◌, ◌<◌, ◌++◌, length, take, drop};
     ghost use Rattle.model.specs.Paper.{view};
     ghost use Rattle.model.specs.Rows.{rows};
     ghost use Rattle.kept.specs.Text.{cells_in};
@@ -91,7 +91,7 @@ impl<'a> Sheet<'a> {
         let _ = self.pass_rows(from, n)?;
         Some(Showing {
             long: self.write_rows(from, n, out),
-            anew: from.piece > front.piece,
+            anew: front.anew,
         })
     }
 
@@ -101,58 +101,46 @@ impl<'a> Sheet<'a> {
         requires begun { begun.long ≤ self.now.width }
         ensures { MemoIs self.now k begun result.memo }
     {
-        if let Some(memo) = self.kept_memo(k, begun) {
-            return Effect { memo, anew: false };
+        let way = number(self.way);
+        let kept = self.text.memo(k);
+        if kept.width == self.width && (kept.way == way && kept.before == begun) {
+            return Effect {
+                memo: kept,
+                anew: false,
+            };
         }
         let memo = Memo {
             width: self.width,
-            way: number(self.way),
+            way,
             before: begun,
             reached: breaks::reach(self.text.words_of(k), self.way, self.width, begun),
         };
         Effect { memo, anew: true }
     }
 
-    // The same as it is kept, if what is kept is of this width, this way and this row.
-    fn kept_memo(&self, k: usize, begun: Begun) -> Option<Memo>
-        requires here { k < self.now.text.slots }
-        requires begun { begun.long ≤ self.now.width }
-        ensures { IfSome result (λ memo. MemoIs self.now k begun memo) }
-    {
-        let way = number(self.way);
-        let kept = self.text.memo(k);
-        if kept.width == self.width && (kept.way == way && kept.before == begun) {
-            return Some(kept);
-        }
-        None
-    }
-
-    // The front of the piece in which row number `first` ends, or of what stands behind all pieces; or of the first piece that has no memo that fits, if that stands
-    // before. The rows of that piece are as soon found one after the other as letter by letter.
+    // The front of the piece in which row number `first` ends, or of what stands behind all pieces.
     fn front_before(&self, first: u32) -> Front
         ensures front { IsFront self.now result }
         ensures before { result.rows ≤ first }
     {
         let mut front = Front {
-            piece: 0,
             rows: 0,
             seen: 0,
             begun: Begun::NONE,
+            anew: false,
         };
         // By number, which each question about a piece takes.
         for k in 0..self.text.slots {
-            let Some(memo) = self.kept_memo(k, front.begun) else {
-                return front;
-            };
-            let reached = memo.reached;
+            let effect = self.effect(k, front.begun);
+            let reached = effect.memo.reached;
             if front.rows + reached.rows > first {
                 return front;
             }
             front = Front {
-                piece: k + 1,
                 rows: front.rows + reached.rows,
                 seen: front.seen + self.text.seen_in(k, self.way),
                 begun: reached.begun,
+                anew: front.anew || effect.anew,
             };
         }
         front

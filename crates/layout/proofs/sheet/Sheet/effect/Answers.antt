@@ -1,8 +1,8 @@
 use Rattle.std.proofs.Common.{sym, ◌∙◌}
 use Rattle.std.proofs.lemmas.Bool.{eqb-true}
 use Rattle.layout.proofs.Fronts.{begun_same, memo_kept}
-use Rattle.layout.proofs.sheet.Sheet.kept_memo.Goals as goal
-use Rattle.layout.proofs.sheet.Sheet.kept_memo.Goals.{then-kept-way, else-kept-way}
+use Rattle.layout.proofs.sheet.Sheet.effect.Goals as goal
+use Rattle.layout.proofs.sheet.Sheet.effect.Goals.{then-kept-way, else-kept-way}
 
 pub returns-then-eq : goal.returns-then-eq
 returns-then-eq c =
