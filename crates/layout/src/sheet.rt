@@ -118,7 +118,7 @@ impl<'a> Sheet<'a> {
         Effect { memo, anew: true }
     }
 
-    // The front of the piece in which row number `first` ends, or of what stands behind all pieces.
+    // The front of the first piece before which all rows before row number `first` have ended, or else of the one in which it ends, or of what stands behind all pieces.
     fn front_before(&self, first: u32) -> Front
         ensures front { IsFront self.now result }
         ensures before { result.rows ≤ first }
@@ -131,6 +131,10 @@ impl<'a> Sheet<'a> {
         };
         // By number, which each question about a piece takes.
         for k in 0..self.text.slots {
+            // That row begins before the piece or in its first cells: no letter of the piece has to be read.
+            if front.rows == first {
+                return front;
+            }
             let effect = self.effect(k, front.begun);
             let reached = effect.memo.reached;
             if front.rows + reached.rows > first {

@@ -1,17 +1,20 @@
 -- From the steps of an edit to what it does to the text.
-use Rattle.std.proofs.Common.{◌≡◌, ℕ, ◌+◌, ◌*◌, ◌<◌, List, [], ◌∷◌, drop, sym, refl, ◌∙◌, inl, inr, arith}
-use Rattle.std.proofs.lemmas.Bool.{cases_eq}
+use Rattle.std.proofs.Common.{◌≡◌, ℕ, ◌+◌, ◌-◌, ◌*◌, ◌<◌, ◌≤◌, List, [], ◌∷◌, ◌++◌, length, take, drop, set, sym, refl, ap, ◌∙◌, inl, inr, add-one, arith}
+use Rattle.std.proofs.lemmas.List.{append_assoc, length-append, length-take-le, take-append-drop, take_at, drop_at, drop-drop, set_split}
+use Rattle.std.proofs.lemmas.Bool.{cases_lt, cases_eq}
 use Rattle.model.specs.Paper.{Cell}
-use Rattle.slots.specs.Cells.{cell_at, Kept}
+use Rattle.slots.specs.Cells.{cell_at, cells_at, Kept}
+use Rattle.slots.proofs.Words.{cells_split}
 use Rattle.tree.specs.Tree.{Sums}
 use Rattle.std.specs.List.{AllByRecursion}
 use Rattle.pieces.specs.Marks.{Marks, with_set, noted_cells, Beside, Grown}
-use Rattle.pieces.specs.Store.{slot, used, piece, Marked, Order, Store, Frame}
-use Rattle.pieces.specs.Edits.{replaced, Changed, SameText}
+use Rattle.pieces.specs.Store.{slot, used, piece, cells_of, before, Marked, Order, Store, Frame}
+use Rattle.pieces.specs.Edits.{replaced, Changed, Cut, SameText}
+use Rattle.pieces.proofs.Texts.{length_piece, length_text, before_more, before_within}
 use Rattle.pieces.proofs.Sets.{sums_beside, marks_moved, beside_both, set_beside, set_apart, cells_noted}
-use Rattle.pieces.proofs.Change.{changed_marked, carried, replaced_here, resized_none, resized_grown}
+use Rattle.pieces.proofs.Change.{changed_text, changed_marked, carried, length_replaced, replaced_here, resized_none, resized_grown, frame_both, frame_none}
 use Rattle.pieces.proofs.Cells.{overwritten}
-use Rattle.pieces.proofs.Cuts.{same_piece}
+use Rattle.pieces.proofs.Cuts.{used_from, before_same, same_piece}
 use Rattle.pieces.proofs.Strung.{strung_same}
 
 pub store_after : (c p d q : List ℕ) (s : ℕ) → Store c p s → Frame c p d q s → Order q s → Sums (drop 2048 q) → Marked d q s → Store d q s
