@@ -118,7 +118,7 @@ impl<'a> Sheet<'a> {
         Effect { memo, anew: true }
     }
 
-    // The front of the first piece before which all rows before row number `first` have ended, or else of the one in which it ends, or of what stands behind all pieces.
+    // The front of a piece up to whose end row number `first` is sure to begin, or of the piece in which it ends, or of what stands behind all pieces.
     fn front_before(&self, first: u32) -> Front
         ensures front { IsFront self.now result }
         ensures before { result.rows ≤ first }
@@ -131,8 +131,9 @@ impl<'a> Sheet<'a> {
         };
         // By number, which each question about a piece takes.
         for k in 0..self.text.slots {
-            // That row begins before the piece or in its first cells: no letter of the piece has to be read.
-            if front.rows == first {
+            let seen = self.text.seen_in(k, self.way);
+            // Each row ends within `width` + 1 cells, so row number `first` begins in this piece or before: what the piece does to rows need not be found.
+            if (first - front.rows) as usize * (self.width as usize + 1) <= seen {
                 return front;
             }
             let effect = self.effect(k, front.begun);
@@ -142,7 +143,7 @@ impl<'a> Sheet<'a> {
             }
             front = Front {
                 rows: front.rows + reached.rows,
-                seen: front.seen + self.text.seen_in(k, self.way),
+                seen: front.seen + seen,
                 begun: reached.begun,
                 anew: front.anew || effect.anew,
             };
