@@ -131,6 +131,11 @@ impl<'a> Sheet<'a> {
         };
         // By number, which each question about a piece takes.
         for k in 0..self.text.slots {
+            let seen = self.text.seen_in(k, self.way);
+            // Each row ends within `width` + 1 cells, so row number `first` ends in this piece: what the piece does to rows need not be found.
+            if ((first - front.rows) as usize + 1) * (self.width as usize + 1) <= seen {
+                return front;
+            }
             let effect = self.effect(k, front.begun);
             let reached = effect.memo.reached;
             if front.rows + reached.rows > first {
@@ -138,7 +143,7 @@ impl<'a> Sheet<'a> {
             }
             front = Front {
                 rows: front.rows + reached.rows,
-                seen: front.seen + self.text.seen_in(k, self.way),
+                seen: front.seen + seen,
                 begun: reached.begun,
                 anew: front.anew || effect.anew,
             };

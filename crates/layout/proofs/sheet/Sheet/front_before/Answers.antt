@@ -1,9 +1,17 @@
-use Rattle.std.proofs.Common.{false, arith}
+use Rattle.std.proofs.Common.{◌-◌, ◌+◌, false, arith}
+use Rattle.std.proofs.lemmas.Nat.{mul-le}
 use Rattle.layout.proofs.Fronts.{front_first, front_wide, front_rows_few, front_seen_few, front_next}
 use Rattle.layout.proofs.sheet.Sheet.front_before.Goals as goal
 
 pub loop-k-init : goal.loop-k-init
 loop-k-init c = (front_first c.args.self.now, omega arith)
+
+pub overflow_mul-first : goal.overflow_mul-first
+overflow_mul-first c =
+    let f = c.ranges.first in
+    let w = c.args.self.now.most in
+    let m = mul-le (c.args.first - c.loop-k.front.rows + 1) (c.args.self.now.width + 1) 4294967296 257 (omega arith) (omega arith) in
+    omega arith
 
 pub effect-effect-requires-clause-begun : goal.effect-effect-requires-clause-begun
 effect-effect-requires-clause-begun c = front_wide c.args.self.now _ _ c.loop-k.invariant.0
@@ -16,12 +24,12 @@ overflow_add-front c =
 
 pub overflow_add-front-in-loop-k-2 : goal.overflow_add-front-in-loop-k-2
 overflow_add-front-in-loop-k-2 c =
-    let n = front_next c.args.self.now _ _ c.loop-k.invariant.0 _ _ false c.loop-k-test.true c.effect-effect.ensures c.seen_in.ensures in
+    let n = front_next c.args.self.now _ _ c.loop-k.invariant.0 _ _ false c.loop-k-test.true c.effect-effect.ensures c.seen_in-seen.ensures in
     let f = front_seen_few c.args.self.now _ _ n in
     omega arith
 
 pub loop-k-preserved : goal.loop-k-preserved
-loop-k-preserved c = (front_next c.args.self.now _ _ c.loop-k.invariant.0 _ _ _ c.loop-k-test.true c.effect-effect.ensures c.seen_in.ensures, c.if-front-reached.false)
+loop-k-preserved c = (front_next c.args.self.now _ _ c.loop-k.invariant.0 _ _ _ c.loop-k-test.true c.effect-effect.ensures c.seen_in-seen.ensures, c.if-front-reached.false)
 
 pub returns-then-front-reached-clause-front : goal.returns-then-front-reached-clause-front
 returns-then-front-reached-clause-front c = (c.loop-k.k, c.loop-k.invariant.0)

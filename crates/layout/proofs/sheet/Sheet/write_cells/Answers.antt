@@ -1,4 +1,4 @@
-use Rattle.std.proofs.Common.{◌≡◌, ◌+◌, ◌≤◌, length, refl, ap, arith}
+use Rattle.std.proofs.Common.{◌+◌, ◌≤◌, length, ap, arith}
 use Rattle.model.specs.Values.{cell_of}
 use Rattle.layout.proofs.Remains.{remains_start, remains_more, ahead_seen, ahead_unseen, within_next, ahead_next, ahead_none}
 use Rattle.layout.proofs.Written.{cells_place, cells_same, cells_more, cells_done}
