@@ -48,8 +48,16 @@ impl<'a> Seen<'a> {
         ensures way { result.way ≡ way }
         ensures rest { still result ≡ drop place (view (way_number way) (cells_in text.now)) }
     {
+        // Spots by their two fields, here and below: which cell is meant is seen at once.
+        if place == 0 {
+            // No tree is gone down where nothing is passed over.
+            let start = Spot {
+                piece: 0,
+                offset: 0,
+            };
+            return Seen::new(text, way, start);
+        }
         if place >= text.seen(way) {
-            // Spots by their two fields, here and below: which cell is meant is seen at once.
             let end = Spot {
                 piece: text.slots,
                 offset: 0,
