@@ -118,7 +118,7 @@ impl<'a> Sheet<'a> {
         Effect { memo, anew: true }
     }
 
-    // The front of a piece up to whose end row number `first` is sure to begin, or of the piece in which it ends, or of what stands behind all pieces.
+    // The front of the piece in which row number `first` ends, or of one before it that it has reached, or of what stands behind all pieces.
     fn front_before(&self, first: u32) -> Front
         ensures front { IsFront self.now result }
         ensures before { result.rows ≤ first }
@@ -132,8 +132,10 @@ impl<'a> Sheet<'a> {
         // By number, which each question about a piece takes.
         for k in 0..self.text.slots {
             let seen = self.text.seen_in(k, self.way);
-            // Each row ends within `width` + 1 cells, so row number `first` begins in this piece or before: what the piece does to rows need not be found.
-            if (first - front.rows) as usize * (self.width as usize + 1) <= seen {
+            // Row number `first` has begun or begins here, or is sure to end in this piece, as each row ends within `width` + 1 cells: what the piece does to rows
+            // need not be found.
+            let left = (first - front.rows) as usize;
+            if left == 0 || (left + 1) * (self.width as usize + 1) <= seen {
                 return front;
             }
             let effect = self.effect(k, front.begun);

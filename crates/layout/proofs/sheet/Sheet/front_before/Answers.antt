@@ -6,11 +6,11 @@ use Rattle.layout.proofs.sheet.Sheet.front_before.Goals as goal
 pub loop-k-init : goal.loop-k-init
 loop-k-init c = (front_first c.args.self.now, omega arith)
 
-pub overflow_mul-first : goal.overflow_mul-first
-overflow_mul-first c =
+pub overflow_mul-left : goal.overflow_mul-left
+overflow_mul-left c =
     let f = c.ranges.first in
     let w = c.args.self.now.most in
-    let m = mul-le (c.args.first - c.loop-k.front.rows) (c.args.self.now.width + 1) 4294967296 257 (omega arith) (omega arith) in
+    let m = mul-le (c.args.first - c.loop-k.front.rows + 1) (c.args.self.now.width + 1) 4294967296 257 (omega arith) (omega arith) in
     omega arith
 
 pub effect-effect-requires-clause-begun : goal.effect-effect-requires-clause-begun
