@@ -225,6 +225,10 @@ impl<'a> Sheet<'a> {
         let mut left = n;
         let mut offset = from.offset;
         for piece in from.piece..self.text.slots {
+            // Here too: behind the last cell there may be many empty pieces.
+            if left == 0 {
+                return at;
+            }
             for x in rest_of(&self.text, Spot { piece, offset }) {
                 if left == 0 {
                     return at;

@@ -11,27 +11,33 @@ loop-x-init c =
     (tt, tt, (c.loop-piece.offset, (remains_start c.args.self.now _ _ _ c.loop-piece-test.true i.0 c.rest_of-x-items.ensures, i.1)))
 
 pub returns-then-left-eq0-clause-bytes : goal.returns-then-left-eq0-clause-bytes
-returns-then-left-eq0-clause-bytes c =
-    let (j, (r, w)) = c.loop-x.invariant.2 in
-    (cells_done _ _ _ _ _ _ _ _ w c.if-left-eq0.true c.requires.enough).0
+returns-then-left-eq0-clause-bytes c = (cells_done _ _ _ _ _ _ _ _ c.loop-piece.invariant.1 c.if-left-eq0.true c.requires.enough).0
 
 pub returns-then-left-eq0-clause-next : goal.returns-then-left-eq0-clause-next
-returns-then-left-eq0-clause-next c =
+returns-then-left-eq0-clause-next c = (cells_done _ _ _ _ _ _ _ _ c.loop-piece.invariant.1 c.if-left-eq0.true c.requires.enough).1
+
+pub returns-then-left-eq0-2-clause-bytes : goal.returns-then-left-eq0-2-clause-bytes
+returns-then-left-eq0-2-clause-bytes c =
     let (j, (r, w)) = c.loop-x.invariant.2 in
-    (cells_done _ _ _ _ _ _ _ _ w c.if-left-eq0.true c.requires.enough).1
+    (cells_done _ _ _ _ _ _ _ _ w c.if-left-eq0-2.true c.requires.enough).0
+
+pub returns-then-left-eq0-2-clause-next : goal.returns-then-left-eq0-2-clause-next
+returns-then-left-eq0-2-clause-next c =
+    let (j, (r, w)) = c.loop-x.invariant.2 in
+    (cells_done _ _ _ _ _ _ _ _ w c.if-left-eq0-2.true c.requires.enough).1
 
 pub cell-at-requires : goal.cell-at-requires
 cell-at-requires c =
     let (j, (r, w)) = c.loop-x.invariant.2 in
     let p = cells_place _ _ _ _ _ _ _ _ w c.requires.enough in
-    let n = c.if-left-eq0.false in
+    let n = c.if-left-eq0-2.false in
     omega arith
 
 pub loop-x-preserved-then-sees : goal.loop-x-preserved-then-sees
 loop-x-preserved-then-sees c =
     let (j, (r, w)) = c.loop-x.invariant.2 in
     let p = cells_place _ _ _ _ _ _ _ _ w c.requires.enough in
-    let n = c.if-left-eq0.false in
+    let n = c.if-left-eq0-2.false in
     let l : c.cell-at.result ≤ length c.loop-x.out = omega arith in
     let e = ahead_seen c.args.self.now _ _ _ r _ _ c.in-Some.ensures.steps c.if-sees.ensures in (
       tt,
