@@ -72,11 +72,11 @@ module _ (s : Sheet) where
       let gr = ap (λ (r : Reached). r.rows) g in
       record { width = width; way = way; before = before; reached = sym g; wide = omega arith; few = omega arith }
 
-  pub front_first : FrontOf s 0 (record { rows = 0; seen = 0; begun = fresh; anew = false })
+  pub front_first : FrontOf s 0 (record { piece = 0; rows = 0; seen = 0; begun = fresh; anew = false })
   unfolding scan
   front_first =
       let e : front 0 ≡ [] = ap (view (way_number s.way)) (strung_zero (piece s.text.cells.now s.text.tables.now) 0) ∙ view_none (way_number s.way) in
-      record { here = omega arith; rows = rw e refl; seen = rw e refl; begun = rw e refl }
+      record { number = refl; here = omega arith; rows = rw e refl; seen = rw e refl; begun = rw e refl }
 
   module _ (k : ℕ) (f : Front) (h : FrontOf s k f) where
     pub front_wide : f.begun.long ≤ s.width
@@ -99,13 +99,14 @@ module _ (s : Sheet) where
         omega arith
 
     pub front_next : (m : Memo) (n : ℕ) (b : Bool) → k < s.text.slots → MemoIs s k f.begun m → n ≡ length (of k)
-        → FrontOf s (k + 1) (record { rows = f.rows + m.reached.rows; seen = f.seen + n; begun = m.reached.begun; anew = b })
+        → FrontOf s (k + 1) (record { piece = k + 1; rows = f.rows + m.reached.rows; seen = f.seen + n; begun = m.reached.begun; anew = b })
     front_next m n b l r e =
         let a = ap (scan s.width fresh) (front_more k) ∙ scan_append s.width fresh (front k) (of k) in
         let g : m.reached ≡ scan s.width (scan s.width fresh (front k)).begun (of k) = r.reached ∙ ap (λ (b : Begun). scan s.width b (of k)) h.begun in
         let v = view_more (way_number s.way) (piece s.text.cells.now s.text.tables.now) k in
         let w = h.seen in
         record {
+          number = refl;
           here = omega arith;
           rows = sym (ap (λ (r : Reached). r.rows) a ∙ rw (sym g, sym h.rows) refl);
           seen = omega arith;

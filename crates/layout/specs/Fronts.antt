@@ -20,6 +20,7 @@ pub record MemoIs (s : Sheet) (k : ℕ) (b : Begun) (m : Memo) : Type 0 where
 
 -- the front of piece k
 pub record FrontOf (s : Sheet) (k : ℕ) (f : Front) : Type 0 where
+  pub number : f.piece ≡ k
   pub here : k ≤ s.text.slots
   pub rows : f.rows ≡ (scan s.width fresh (view (way_number s.way) (strung (piece s.text.cells.now s.text.tables.now) 0 k))).rows
   pub seen : f.seen ≡ length (view (way_number s.way) (strung (piece s.text.cells.now s.text.tables.now) 0 k))

@@ -35,10 +35,11 @@ pub struct Effect {
     pub anew: bool,
 }
 
-/// Where the rows stand at the front of a piece: how many have ended, how many cells are seen before the piece, and the row that has begun there; and
-/// whether a piece before had no memo that fits.
+/// Where the rows stand at the front of a piece, or behind all pieces: the number of the piece, how many rows have ended, how many cells are seen before it,
+/// and the row that has begun there; and whether a piece before had no memo that fits.
 #[derive(Clone, Copy, Debug, PartialEq, Eq, Hash)]
 pub struct Front {
+    pub piece: usize,
     pub rows: u32,
     pub seen: usize,
     pub begun: Begun,
@@ -68,10 +69,12 @@ pub struct Sheet<'a> {
 }
 
 impl<'a> Sheet<'a> {
-    ghost use Rattle.std.specs.Prelude.{◌+◌, ◌*◌, ◌<◌, ◌++◌, length, take, drop};
+    ghost use Rattle.std.specs.Prelude.{◌+◌, ◌*◌, ◌<◌, ◌++◌, true, length, take, drop};
     ghost use Rattle.model.specs.Paper.{view};
     ghost use Rattle.model.specs.Rows.{rows};
+    ghost use Rattle.kept.specs.Kept.{memo_of};
     ghost use Rattle.kept.specs.Text.{cells_in};
+    ghost use Rattle.pieces.specs.Store.{slot};
     ghost use Rattle.layout.specs.Shown.{Shown};
     ghost use Rattle.model.specs.Calls.{lines};
     ghost use Rattle.codec.specs.Bytes.{cells_bytes, answer_bytes};
@@ -89,10 +92,9 @@ impl<'a> Sheet<'a> {
         let start = Seen::after(&self.text, self.way, front.seen - front.begun.long as usize);
         let from = self.pass_rows(start.spot, first - front.rows)?;
         let _ = self.pass_rows(from, n)?;
-        Some(Showing {
-            long: self.write_rows(from, n, out),
-            anew: front.anew,
-        })
+        let anew = front.anew || from.piece > front.piece;
+        let long = self.write_rows(from, n, out);
+        Some(Showing { long, anew })
     }
 
     /// What piece `k` does to rows, where a row has begun before it: as it is kept, or found letter by letter.
@@ -101,29 +103,40 @@ impl<'a> Sheet<'a> {
         requires begun { begun.long ≤ self.now.width }
         ensures { MemoIs self.now k begun result.memo }
     {
-        let way = number(self.way);
-        let kept = self.text.memo(k);
-        if kept.width == self.width && (kept.way == way && kept.before == begun) {
+        if self.is_kept(k, begun) {
             return Effect {
-                memo: kept,
+                memo: self.text.memo(k),
                 anew: false,
             };
         }
         let memo = Memo {
             width: self.width,
-            way,
+            way: number(self.way),
             before: begun,
             reached: breaks::reach(self.text.words_of(k), self.way, self.width, begun),
         };
         Effect { memo, anew: true }
     }
 
-    // The front of the piece in which row number `first` ends, or of one before it that it has reached, or of what stands behind all pieces.
+    // Whether it is kept: whether the memo of the piece is one of this width, this way and this row.
+    fn is_kept(&self, k: usize, begun: Begun) -> bool
+        requires here { k < self.now.text.slots }
+        requires begun { begun.long ≤ self.now.width }
+        ensures { result ≡ true → MemoIs self.now k begun (memo_of self.now.text.tables.now (slot self.now.text.tables.now k)) }
+    {
+        let way = number(self.way);
+        let kept = self.text.memo(k);
+        kept.width == self.width && (kept.way == way && kept.before == begun)
+    }
+
+    // The front of the piece in which row number `first` ends, or of what stands behind all pieces; or of a piece before that has no memo that fits, if the row is
+    // not far behind it.
     fn front_before(&self, first: u32) -> Front
         ensures front { IsFront self.now result }
         ensures before { result.rows ≤ first }
     {
         let mut front = Front {
+            piece: 0,
             rows: 0,
             seen: 0,
             begun: Begun::NONE,
@@ -132,10 +145,9 @@ impl<'a> Sheet<'a> {
         // By number, which each question about a piece takes.
         for k in 0..self.text.slots {
             let seen = self.text.seen_in(k, self.way);
-            // Row number `first` has begun or begins here, or is sure to end in this piece, as each row ends within `width` + 1 cells: what the piece does to rows
-            // need not be found.
-            let left = (first - front.rows) as usize;
-            if left == 0 || (left + 1) * (self.width as usize + 1) <= seen {
+            // Rows that are half full would have no more cells than this piece: to pass them takes no longer than to find what the piece does.
+            let near = (first - front.rows) as usize * self.width as usize / 2 <= seen;
+            if near && !self.is_kept(k, front.begun) {
                 return front;
             }
             let effect = self.effect(k, front.begun);
@@ -144,6 +156,7 @@ impl<'a> Sheet<'a> {
                 return front;
             }
             front = Front {
+                piece: k + 1,
                 rows: front.rows + reached.rows,
                 seen: front.seen + seen,
                 begun: reached.begun,
@@ -165,7 +178,7 @@ impl<'a> Sheet<'a> {
         // the row as it is if it goes to the last space so far
         let mut space = None;
         let mut offset = from.offset;
-        // By number, as a spot names its piece, and not over `Seen`, here and below: to make that value anew for each letter took half of the time.
+        // By number, as a spot names its piece; and not over `Seen`, here and below, as that value is made anew for each letter, and rows took half as long again.
         for piece in from.piece..self.text.slots {
             for x in rest_of(&self.text, Spot { piece, offset }) {
                 let at = Spot { piece, offset };

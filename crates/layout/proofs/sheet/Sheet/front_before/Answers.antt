@@ -1,17 +1,12 @@
-use Rattle.std.proofs.Common.{◌-◌, ◌+◌, false, arith}
-use Rattle.std.proofs.lemmas.Nat.{mul-le}
+use Rattle.std.proofs.Common.{false, arith}
 use Rattle.layout.proofs.Fronts.{front_first, front_wide, front_rows_few, front_seen_few, front_next}
 use Rattle.layout.proofs.sheet.Sheet.front_before.Goals as goal
 
 pub loop-k-init : goal.loop-k-init
 loop-k-init c = (front_first c.args.self.now, omega arith)
 
-pub overflow_mul-left : goal.overflow_mul-left
-overflow_mul-left c =
-    let f = c.ranges.first in
-    let w = c.args.self.now.most in
-    let m = mul-le (c.args.first - c.loop-k.front.rows + 1) (c.args.self.now.width + 1) 4294967296 257 (omega arith) (omega arith) in
-    omega arith
+pub is_kept-requires-clause-begun : goal.is_kept-requires-clause-begun
+is_kept-requires-clause-begun c = front_wide c.args.self.now _ _ c.loop-k.invariant.0
 
 pub effect-effect-requires-clause-begun : goal.effect-effect-requires-clause-begun
 effect-effect-requires-clause-begun c = front_wide c.args.self.now _ _ c.loop-k.invariant.0
@@ -22,8 +17,8 @@ overflow_add-front c =
     let m = c.effect-effect.ensures.few in
     omega arith
 
-pub overflow_add-front-in-loop-k-2 : goal.overflow_add-front-in-loop-k-2
-overflow_add-front-in-loop-k-2 c =
+pub overflow_add-front-in-loop-k-3 : goal.overflow_add-front-in-loop-k-3
+overflow_add-front-in-loop-k-3 c =
     let n = front_next c.args.self.now _ _ c.loop-k.invariant.0 _ _ false c.loop-k-test.true c.effect-effect.ensures c.seen_in-seen.ensures in
     let f = front_seen_few c.args.self.now _ _ n in
     omega arith

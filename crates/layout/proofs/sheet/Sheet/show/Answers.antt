@@ -23,4 +23,4 @@ returns c =
     let f = c.front_before-front.ensures in
     let a = c.after-start.ensures in
     let b = begins c.args.self.now _ c.after-start.result f.front a.text a.way a.rest in
-    shows c.args.self.now _ _ _ b f.before _ c.in_ok-from.ensures _ _ _ _ c.in_ok-pass_rows.ensures.enough c.write_rows.ensures.bytes c.write_rows.ensures.long
+    shows c.args.self.now _ _ _ b f.before _ c.in_ok-from.ensures _ _ _ _ c.in_ok-pass_rows.ensures.enough c.write_rows-long.ensures.bytes c.write_rows-long.ensures.long
