@@ -9,7 +9,7 @@ use Rattle.model.specs.Calls.{Call, put, strikes, accepts, rejects, styles, undo
 use Rattle.model.proofs.Rows.{by_test}
 use Rattle.text.specs.Lines.{Reading, means, line_reading, numbers_line, letter_line, letters_line, quoted_line, line_of, limits_line, small, readable, ReadsBack, LimitsBack}
 use Rattle.transcript.specs.Transcript.{lines_of, passed_over, kept_lines, call_lines, line_answer, line_after, line_answers, limits_for, answers_after, file_answers, told_lines, lines_for, file_for, all_sayable, AnswersCalls}
-use Rattle.transcript.proofs.Lines.{keeps}
+use Rattle.transcript.proofs.FileLines.{keeps}
 use Rattle.transcript.proofs.Serving.{room_parts, room_answers}
 
 -- no byte ends a line

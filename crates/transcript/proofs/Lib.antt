@@ -1,4 +1,4 @@
-mod Lines
+mod FileLines
 mod Letters
 mod Serving
 mod Calls

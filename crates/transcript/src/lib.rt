@@ -8,11 +8,13 @@ ghost use Rattle.session.specs.Refusals.{refusal_told};
 ghost use Rattle.text.specs.Lines.{Lacks, limits_reading};
 ghost use Rattle.text.specs.Shown.{showable};
 ghost use Rattle.transcript.specs.Serving.{Appends, LimitsFound, RoomFound};
-ghost use Rattle.transcript.specs.Transcript.{AnswersCalls, passed_over, told_line, transcript};
+ghost use Rattle.transcript.specs.Transcript.{AnswersCalls, told_line, transcript};
 
+mod lines;
 mod open;
 
 use codec::Answer;
+use lines::Lines;
 use open::OpenDesk;
 use session::{Limits, Refusal};
 use std::alloc::Global;
@@ -24,13 +26,6 @@ const MOST_CELLS: u32 = 2048;
 const MOST_CHANGES: u32 = 128;
 
 const MOST_UNDOS: u32 = 2048;
-
-// Empty lines and lines that begin with # are passed over.
-fn is_passed(line: &[u8]) -> bool
-    ensures { result ≡ passed_over line.now }
-{
-    matches!(line, [] | [b'#', ..])
-}
 
 // Appends the line of an answer that can be shown, from its bytes.
 fn tell(answer: &[u8], out: &mut Vec<u8>) -> Result<(), Fault>
@@ -84,7 +79,7 @@ pub fn answer_file(heap: Global, file: &[u8]) -> Result<Vec<u8>, Fault>
     ensures { MatchResult result (λ v. v.items ≡ transcript file.now) Lacks }
 {
     let mut out = Vec::new(heap);
-    let mut lines = file.split(|x| *x == b'\n').filter(|line| !is_passed(line));
+    let mut lines = Lines { rest: file };
     let Some(first) = lines.next() else {
         return Ok(out);
     };

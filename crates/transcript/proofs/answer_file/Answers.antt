@@ -1,24 +1,17 @@
-use Rattle.std.proofs.Common.{map, rules, of_calls, ap, ◌∙◌}
-use borrow.Author.Tests.{tests}
-use Rattle.std.proofs.lemmas.Iterator.Consumers.{YieldsList-at, YieldsList-from_filter}
-use Rattle.std.proofs.lemmas.Iterator.Splits.{YieldsList-from_slice_split}
+use Rattle.std.proofs.Common.{◌∷◌, map, of_calls, ap, ◌∙◌}
 use Rattle.std.proofs.lemmas.List.{map_push}
 use Rattle.std.proofs.lemmas.Result.{err_from_is_err_and}
 use Rattle.model.specs.Calls.{new_desk}
 use Rattle.transcript.specs.Open.{limits_at}
+use Rattle.transcript.specs.Transcript.{call_lines}
 use Rattle.transcript.proofs.Letters.{reached_new}
-use Rattle.transcript.proofs.Lines.{ends_line, kept, none_came, one_came, all_came}
+use Rattle.transcript.proofs.FileLines.{came}
 use Rattle.transcript.proofs.Serving.{going_more, going_all, going_lacks, file_empty, file_refused, file_served}
 use Rattle.transcript.proofs.answer_file.Goals as goal
 use Rattle.transcript.proofs.answer_file.Goals.{in-Ok+in_ok-desk-in-Ok+in-None, in-Err+in_ok-refuse-in-Err}
 
 pub returns-in_default : goal.returns-in_default
-returns-in_default c =
-    file_empty c.args.file.now c.new-out.result.items (none_came c.args.file.now
-    (YieldsList-from_filter _ kept
-    (YieldsList-at c.filter-lines.ensures.source (YieldsList-from_slice_split _ ends_line c.args.file.now c.split.ensures.rest c.split.ensures.done c.split.ensures.closure (λ x b q k. search (rules, tests))))
-    c.filter-lines.ensures.closure (λ x b q k. search (rules, tests)))
-    c.next.result c.next.new.self c.next.ensures.steps c.in_default.is) c.new-out.ensures.items
+returns-in_default c = file_empty c.args.file.now c.new-out.result.items c.in_default.ensures.steps.0 c.new-out.ensures.items
 
 pub loop-line-preserved : goal.loop-line-preserved
 loop-line-preserved c = (
@@ -41,27 +34,19 @@ returns-in_err-answer_line-in-Ok c =
 pub returns : goal.returns
 returns c =
     let first = c.in-Some.first in
+    let rest = call_lines c.next.new.self.rest.now in
+    let is = c.in-Some.ensures.steps in
     elim c.match-limits_of.branch [
       | in-Ok+in_ok-desk-in-Ok+in-None w ↦
           let l = w.in-Ok.limits in
           let d = w.in_ok-desk-in-Ok.desk in
           let lines = map (λ w. w.now) w.loop-line.yielded in
-          let is = all_came c.args.file.now
-          (YieldsList-from_filter _ kept
-          (YieldsList-at c.filter-lines.ensures.source (YieldsList-from_slice_split _ ends_line c.args.file.now c.split.ensures.rest c.split.ensures.done c.split.ensures.closure (λ x b q k. search (rules, tests))))
-          c.filter-lines.ensures.closure (λ x b q k. search (rules, tests)))
-          c.next.result c.next.new.self c.next.ensures.steps first c.in-Some.is w.loop-line.yielded _ w.loop-line.line-iterator w.into_iter-line-iterator.ensures.into_iter_gives
-          w.loop-line.yielded_by _ _ w.in-None.is w.next-in-loop-line.ensures.steps in
+          let all = came c.next.new.self _ w.loop-line.line-iterator w.loop-line.yielded w.into_iter-line-iterator.ensures.into_iter_gives w.loop-line.yielded_by w.in-None.ensures.steps.0 in
           ap (λ v. v.items) w.out-is
-          ∙ file_served c.args.file.now first.now lines l.cells l.changes l.undos (limits_at d) c.new-out.result.items w.loop-line.out.items is w.in-Ok.ensures.0 w.in-Ok.ensures.1
+          ∙ file_served c.args.file.now first.now lines l.cells l.changes l.undos (limits_at d) c.new-out.result.items w.loop-line.out.items (is ∙ ap (λ ls. first.now ∷ ls) all) w.in-Ok.ensures.0 w.in-Ok.ensures.1
           w.in_ok-desk-in-Ok.ensures.0 c.new-out.ensures.items
           (going_all d w.loop-line.desk c.new-out.result.items w.loop-line.out.items lines w.loop-line.invariant.2 new_desk (reached_new (limits_at d)) w.in_ok-desk-in-Ok.ensures.1)
       | in-Err+in_ok-refuse-in-Err w ↦
-          let p = one_came c.args.file.now
-          (YieldsList-from_filter _ kept
-          (YieldsList-at c.filter-lines.ensures.source (YieldsList-from_slice_split _ ends_line c.args.file.now c.split.ensures.rest c.split.ensures.done c.split.ensures.closure (λ x b q k. search (rules, tests))))
-          c.filter-lines.ensures.closure (λ x b q k. search (rules, tests)))
-          c.next.result c.next.new.self c.next.ensures.steps first c.in-Some.is in
           ap (λ v. v.items) w.out-is
-          ∙ file_refused c.args.file.now first.now p.0 w.in-Err.refusal c.new-out.result.items w.refuse.new.out.items p.1 (w.in-Err.ensures p.0) c.new-out.ensures.items w.in_ok-refuse-in-Err.ensures
+          ∙ file_refused c.args.file.now first.now rest w.in-Err.refusal c.new-out.result.items w.refuse.new.out.items is (w.in-Err.ensures rest) c.new-out.ensures.items w.in_ok-refuse-in-Err.ensures
     ]
