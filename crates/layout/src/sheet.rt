@@ -238,7 +238,7 @@ impl<'a> Sheet<'a> {
         let mut left = n;
         let mut offset = from.offset;
         for piece in from.piece..self.text.slots {
-            // Here too: behind the last cell there may be many empty pieces.
+            // Asked before each piece as well, as behind the last cell there may be many empty ones.
             if left == 0 {
                 return at;
             }
